@@ -1,0 +1,2 @@
+-- What the proofs of the cut share.
+pub mod Fields

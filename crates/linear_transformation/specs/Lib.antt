@@ -1,0 +1,2 @@
+-- What the transform computes.
+pub mod Line

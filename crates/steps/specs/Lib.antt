@@ -1,0 +1,2 @@
+-- An f32 as a whole number of steps, and what rounding and cutting do to whole numbers.
+pub mod Steps
