@@ -2,7 +2,7 @@
 -- The ads7924's code is the whole part of v / lsb rounded once (`limit-at`). Each cites the truncation law of `steps`.
 -- Below its scale a voltage never gets the code 4096 (`below-scale`), so that the dac7571's mask with 0xFFF changes nothing (`mask-nothing`). Assumes nothing.
 use mathlib.Core.Path.{_≡_, refl, sym, ap, _∙_, subst}
-use Prim.Native.Nat.{ℕ, suc, _+_, _-_, _*_, _/_, _%_, _^_, _≤_, _<_, min}
+use Prim.Native.Nat.{ℕ, _-_, _*_, _/_, _^_, _≤_, _<_, min}
 use native.Mathlib.Nat.{lt-of-le-of-lt, lt-trans, mul-le-mul-right, div-lt-iff-lt-mul, mod-eq-of-lt}
 use native.Mathlib.Omega.{arith}
 use mathlib.Core.Bool.{Bool, true, false, true≢false}
@@ -10,10 +10,11 @@ use lib.IntN.{pos}
 use lib.Dec.{T, lit<, lit≤}
 use lib.Pow.{pow-pos}
 use lib.Bits.{bitAnd, and-mask}
-use lib.Ieee.{Float, nan, inf, fin, binary32, unlike, round, lt, le, mul, div, toUnsigned, ofBits, fits}
+use lib.Ieee.{Float, nan, inf, fin, binary32, unlike, round, lt, le, mul, div, toUnsigned, ofBits, fits, size}
 use lib.Ieee.Exact.{HasValue}
 use lib.Ieee.Scale.{grid, overflow, finite}
 use Rattle.steps.specs.Steps.{unit, magnitude, negative, IsNumber}
+use Rattle.steps.proofs.Round.{round-at}
 use Rattle.steps.proofs.Operations.{rounded, plain, quotient, times-power}
 use Rattle.steps.proofs.Apart.{below-one}
 use Rattle.steps.proofs.Compare.{nil, steps-of-not-le, not-below-zero}
@@ -36,15 +37,20 @@ codes-is : codes ≡ fin false 1 (pos 12)
 unfolding ofBits
 codes-is = refl
 
+-- v / scale is one rounding
+divided-is : (f v : Float) → Scale f → IsNumber v → div binary32 v f ≡ round binary32 (negative v) (magnitude v) (magnitude f)
+divided-is f v s n =
+    quotient v f n (s .number) (s .above-zero)
+    ∙ ap (λ (t : Bool). round binary32 (unlike (negative v) t) (magnitude v) (magnitude f)) (s .not-negative)
+    ∙ ap (λ (t : Bool). round binary32 t (magnitude v) (magnitude f)) (plain (negative v))
+
 -- v / scale x 4096
 scaled-at : (f v : Float) → Scale f → IsNumber v → share f v * 2 ^ 12 < overflow binary32 → HasValue (mul binary32 (div binary32 v f) codes) (negative v) (share f v * 2 ^ 12) unit
 scaled-at f v s n h =
     let q : share f v < overflow binary32 = lt-of-le-of-lt (more (share f v)) h in
     let (number, sign, size) = rounded (negative v) (magnitude v) (magnitude f) q in
-    let is : div binary32 v f ≡ round binary32 (negative v) (magnitude v) (magnitude f) =
-        quotient v f n (s .number) (s .above-zero) ∙ ap (λ (t : Bool). round binary32 (unlike (negative v) t) (magnitude v) (magnitude f)) (s .not-negative) ∙ ap (λ (t : Bool). round binary32 t (magnitude v) (magnitude f)) (plain (negative v)) in
     let there = times-power (round binary32 (negative v) (magnitude v) (magnitude f)) 12 number (rw size h) in
-    rw (is, codes-is) (rw (sign, size) at there)
+    rw (divided-is f v s n, codes-is) (rw (sign, size) at there)
   where
     more : (x : ℕ) → x ≤ x * 2 ^ 12
     more x = omega arith
@@ -110,3 +116,12 @@ dac-small (fin s m e) t a b = accepted-number (fin s m e) (negative (fin s m e))
 -- and the mask with 0xFFF leaves it as it is
 pub mask-nothing : (n : ℕ) → n ≤ 4095 → bitAnd n 4095 ≡ n
 mask-nothing n h = and-mask n 12 ∙ mod-eq-of-lt (omega arith)
+
+-- ---- the ads7924's limits
+
+scale-lsb : Scale lsb
+unfolding ofBits div round fits negative magnitude size
+scale-lsb = scale lsb (magnitude lsb) tt tt refl refl (lit< tt)
+
+pub limit-at : (v : Float) → IsNumber v → negative v ≡ false → share lsb v < overflow binary32 → limitOf v ≡ min (share lsb v / unit) (2 ^ 16 - 1)
+limit-at v n e h = truncates 16 (div binary32 v lsb) (share lsb v) unit (pow-pos 149) (rw (divided-is lsb v scale-lsb n, e) (round-at false (magnitude v) (magnitude lsb) h))

@@ -1,6 +1,6 @@
 -- Each chip's conversion, as document 01 has it, in IEEE 754's binary32. Each operation rounds once; the cut to 16 bits is Rust's `as u16`: toward zero, saturating at 65,535, a NaN to 0. Definitions only.
 use Prim.Native.Nat.{ℕ}
-use mathlib.Core.Bool.{Bool, _&&_, _||_, cond}
+use mathlib.Core.Bool.{_&&_, _||_, cond}
 use lib.IntN.{pos}
 use lib.Dec.{leb}
 use lib.Ieee.{Float, binary32, lt, le, mul, div, ofInt, toUnsigned}

@@ -1,7 +1,7 @@
 -- The decimal constants of the conversions: each is the f32 nearest to its decimal (`nearest-f32`). Definitions, and one computed test.
 use mathlib.Core.Path.{_≡_, refl}
 use mathlib.Core.Bool.{false}
-use mathlib.Core.List.{List, [], _∷_}
+use mathlib.Core.List.{[], _∷_}
 use lib.Ieee.{Float, binary32, ofBits, round}
 
 abbrev pub zero : Float

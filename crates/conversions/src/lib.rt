@@ -1,7 +1,6 @@
 // Volts to codes and back, for the chips of a channel, each in its own range. The drivers send and
 // read these codes; here nothing is sent yet.
 use cut::cut;
-
 ghost use mathlib.Core.Path.{_≡_};
 ghost use Rattle.conversions.specs.Codes.{codeOf, voltsOf, ad5627Code, dac7571Code, limitOf, ads7924Codes, ads7924Volts};
 

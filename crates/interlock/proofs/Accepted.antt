@@ -1,12 +1,12 @@
 -- What the ad5627's conversion answers to a number of volts, by its sign and its steps (`outcome`), to an infinity (`infinite`) and to a NaN (`not-a-number`). Assumes nothing.
-use mathlib.Core.Path.{_≡_, refl, sym, ap, _∙_, subst}
+use mathlib.Core.Path.{_≡_, refl, sym, _∙_, subst}
 use mathlib.Core.Logic.{_⊎_, inl, inr}
-use Prim.Native.Nat.{ℕ, suc, _+_, _-_, _*_, _/_, _^_, _≤_, _<_, min, zero-le}
+use Prim.Native.Nat.{ℕ, _*_, _/_, _^_, _≤_, _<_, min, zero-le}
 use native.Mathlib.Nat.{lt-of-le-of-lt, lt-of-not-le, mul-le-mul-right, le-trans, le-of-eq, div-lt-iff-lt-mul, le-div-iff-mul-le, le-of-mul-le-mul-right, eq-zero-or-pos, mul-one, one-mul, mul-comm, min-eq-left}
 use native.Mathlib.Decide.{decLe}
 use native.Mathlib.Omega.{arith}
-use mathlib.Core.Bool.{Bool, true, false, true≢false, _&&_, cond}
-use lib.Dec.{T, leb, lit<, lit≤}
+use mathlib.Core.Bool.{Bool, true, false}
+use lib.Dec.{T, lit<}
 use lib.Pow.{pow-pos}
 use lib.Ieee.{Float, nan, inf, binary32, ofBits, le, size, fits}
 use lib.Ieee.Bits.{is-true}

@@ -39,6 +39,7 @@ module _ (s l p₀ p₁ p₂ p₃ : ℕ) (c : Chain s l p₀ p₁ p₂ p₃) whe
     where
       sum₂ : Near l p₂ p₃ → 1048576 * p₂ ≤ 5242881 * l
       sum₂ n = omega (arith, n .under)
+
       sum₁ : Near l p₂ p₃ → Near l p₁ p₂ → 1048576 * p₁ ≤ 5242881 * l
       sum₁ n m = omega (arith, n .under, m .under)
 

@@ -1,32 +1,28 @@
 -- Demand 3 holds of the code that is sent for a level (`demand-3`): for both signs of the slope, for subnormal numbers, for zeros of either sign, and where the quotient overflows or vanishes.
 -- Assumes nothing.
 use mathlib.Core.Path.{_≡_, refl, sym, ap, _∙_, subst}
-use mathlib.Core.Logic.{_⊎_, inl, inr}
+use mathlib.Core.Logic.{inl, inr}
 use Prim.Native.Nat.{ℕ, suc, _+_, _-_, _*_, _/_, _^_, _≤_, _<_}
-use native.Mathlib.Nat.{lt-of-le-of-lt, lt-of-lt-of-le, lt-of-not-le, le-trans, le-of-eq, le-of-suc-le-suc, mul-left-comm, zero-mul, div-mul-le-self, div-lt-iff-lt-mul, lt-suc-self}
+use native.Mathlib.Nat.{lt-of-lt-of-le, lt-of-not-le, le-of-suc-le-suc, mul-left-comm, zero-mul, div-mul-le-self, div-lt-iff-lt-mul, lt-suc-self}
 use native.Mathlib.Decide.{decLt}
 use native.Mathlib.Omega.{arith}
-use mathlib.Core.Bool.{Bool, true, false, true≢false, not, Bool·beq, cond}
-use lib.IntN.{ℤ, pos, negℤ, _+ℤ_, _-ℤ_, _*ℤ_}
-use lib.Signed.{_≤ℤ_, _<ℤ_}
+use mathlib.Core.Bool.{Bool, true, false, not, Bool·beq, cond}
+use lib.IntN.{ℤ, pos, _*ℤ_}
 use lib.Dec.{ltb, lit<, lit≤}
 use lib.Pow.{pow-pos}
-use lib.Ieee.{Float, inf, binary32, unlike, sub, div, round, ofBits}
-use lib.Ieee.Scale.{grid, overflow}
-use Rattle.steps.specs.Steps.{unit, magnitude, negative, signed, steps, IsNumber, HalfStep, Relative}
+use lib.Ieee.{Float, binary32, unlike, round}
+use lib.Ieee.Scale.{overflow}
+use Rattle.steps.specs.Steps.{unit, magnitude, negative, signed, Relative}
 use Rattle.steps.proofs.Round.{round-over, half-step, whole-step}
 use Rattle.steps.proofs.Signed.{sumSize, negated, scaled, le-pos, lt-pos, lt-signed, lt-zero, le-less}
-use Rattle.steps.proofs.Operations.{rounded, plain, difference, quotient, apartSign, apartSize, apart-is}
+use Rattle.steps.proofs.Operations.{rounded, plain, apartSign, apart-is}
 use Rattle.linear_transformation.specs.declared.LinearTransformation.{LinearTransformation}
 use Rattle.linear_transformation.specs.Line.{invertOf}
 use Rattle.conversions.specs.declared.Conversion.{Conversion}
-use Rattle.conversions.specs.declared.Conversion.the-variants.{Code, Range}
-use Rattle.conversions.specs.Constants.{v2-5}
 use Rattle.conversions.specs.Codes.{ad5627Code}
-use Rattle.conversions.proofs.Cuts.{share}
 use Rattle.interlock.specs.Level.{levelCode}
-use Rattle.interlock.specs.Demand3.{Given, turned, num, den, Close, OutOfRange, Answers, Right, Demand3}
-use Rattle.interlock.proofs.Accepted.{half, full, Outcome, sent, nothing, below, above, whole, outcome, infinite}
+use Rattle.interlock.specs.Demand3.{Given, turned, num, Close, OutOfRange, Answers, Demand3}
+use Rattle.interlock.proofs.Accepted.{half, Outcome, sent, nothing, below, above, whole, outcome, infinite}
 use Rattle.interlock.proofs.Volts.{apart, slope, sign, rounded-apart, volts, shares, Finite, volts-are, share-is}
 use Rattle.interlock.proofs.Numbers.{WholePart, Facts, facts}
 
@@ -130,6 +126,7 @@ module _ (l : LinearTransformation) (t : Float) (g : Given l t) where
     where
       r : Float
       r = round binary32 (sign l t) (rounded-apart l t) s
+
       go : Dec (volts l t < overflow binary32) → Answers l t (ad5627Code (invertOf l t))
       go (yes h) = let (number, is-sign, is-size) = rounded (sign l t) (rounded-apart l t) s h in rw (volts-are l t way) (answers r is-sign is-size (outcome r number))
       go (no h) = let over = le-of-suc-le-suc (lt-of-not-le h) in rw (volts-are l t way, round-over (sign l t) (rounded-apart l t) s over, infinite (sign l t)) (overflowed over (sign l t) refl)

@@ -5,3 +5,4 @@ pub mod Accepted
 pub mod Volts
 pub mod Demand3
 pub mod Rising
+pub mod Impostors

@@ -1,9 +1,9 @@
 -- From a level to its code in whole numbers. w is the exact difference of threshold and offset in steps, d the rounded one, s the slope, v the volts, q their share of the full scale, u the steps in one, h half of them.
 -- u stays a variable, of which only its size matters. Assumes nothing.
-use mathlib.Core.Path.{_≡_, refl, sym, ap, _∙_, subst}
+use mathlib.Core.Path.{_≡_, sym, ap, _∙_, subst}
 use mathlib.Core.Logic.{_⊎_, inl, inr}
-use Prim.Native.Nat.{ℕ, suc, _+_, _*_, _/_, _^_, _≤_, _<_}
-use native.Mathlib.Nat.{mul-assoc, mul-comm, mul-left-comm, mul-right-comm, mul-pos, add-mul, suc-mul, zero-mul, one-mul, mul-le-mul-right, mul-lt-mul-of-pos-right, le-of-mul-le-mul-right, lt-of-mul-lt-mul-right, le-trans, le-of-eq, eq-zero-or-pos, div-mul-le-self, lt-suc-self, div-lt-iff-lt-mul, le-of-lt}
+use Prim.Native.Nat.{ℕ, suc, _+_, _*_, _^_, _≤_, _<_}
+use native.Mathlib.Nat.{mul-assoc, mul-comm, mul-right-comm, mul-pos, add-mul, suc-mul, zero-mul, one-mul, mul-le-mul-right, mul-lt-mul-of-pos-right, le-of-mul-le-mul-right, lt-of-mul-lt-mul-right, le-trans, le-of-eq, eq-zero-or-pos, le-of-lt}
 use native.Mathlib.Omega.{arith}
 use Rattle.steps.specs.Steps.{HalfStep, Relative}
 use Rattle.interlock.proofs.Chain as C

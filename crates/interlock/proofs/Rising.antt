@@ -4,8 +4,8 @@ use mathlib.Core.Logic.{_⊎_, inl, inr}
 use Prim.Native.Nat.{ℕ, zero, suc, _+_, _-_, _*_, _/_, _^_, _≤_, _<_, zero-le}
 use native.Mathlib.Nat.{mul-le-mul-right, lt-of-le-of-lt, lt-of-not-le, le-trans, le-of-eq, zero-lt-suc, zero-mul}
 use native.Mathlib.Omega.{arith}
-use mathlib.Core.Bool.{Bool, true, false, true≢false, not, _&&_, Bool·beq, cond}
-use lib.Dec.{T, ltb, eqb, ltb→lt, nltb→le, lit<, lit≤}
+use mathlib.Core.Bool.{Bool, true, false, true≢false, not, cond}
+use lib.Dec.{T, ltb, eqb, ltb→lt, nltb→le, lit<}
 use lib.Pow.{pow-pos, shr-mono}
 use lib.Ieee.{Float, nan, inf, fin, binary32, up, down, unlike, sub, div, round, lt, le, fits, ofBits, size}
 use lib.Ieee.Fits.{div-fits}
@@ -18,7 +18,7 @@ use Rattle.steps.proofs.Operations.{rounded, plain, difference, apartSign, apar
 use Rattle.linear_transformation.specs.declared.LinearTransformation.{LinearTransformation}
 use Rattle.linear_transformation.specs.Line.{invertOf}
 use Rattle.conversions.specs.declared.Conversion.{Conversion}
-use Rattle.conversions.specs.declared.Conversion.the-variants.{Code, Range}
+use Rattle.conversions.specs.declared.Conversion.the-variants.{Code}
 use Rattle.conversions.specs.Constants.{v2-5}
 use Rattle.conversions.specs.Constants as K
 use Rattle.conversions.specs.Codes.{ad5627Code}
@@ -26,7 +26,7 @@ use Rattle.conversions.proofs.Cuts.{share}
 use Rattle.interlock.specs.Level.{levelCode}
 use Rattle.interlock.specs.Order.{Rising, Falling}
 use Rattle.interlock.proofs.Accepted.{half, full, Outcome, sent, below, above, whole, outcome, infinite, not-a-number}
-use Rattle.interlock.proofs.Volts.{apart, slope, sign, rounded-apart, volts, shares, Finite, volts-are, share-is}
+use Rattle.interlock.proofs.Volts.{apart, slope, sign, rounded-apart, volts, Finite, volts-are, share-is}
 use Rattle.interlock.proofs.Accepted as A
 
 -- ---- more steps, no lower code

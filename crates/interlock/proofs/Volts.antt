@@ -3,7 +3,7 @@
 use mathlib.Core.Path.{_≡_, ap, _∙_}
 use Prim.Native.Nat.{ℕ, _*_, _<_}
 use mathlib.Core.Bool.{Bool}
-use lib.Ieee.{Float, binary32, unlike, sub, div, round}
+use lib.Ieee.{Float, binary32, unlike, div, round}
 use lib.Ieee.Scale.{grid, overflow}
 use Rattle.steps.specs.Steps.{unit, magnitude, negative, IsNumber}
 use Rattle.steps.proofs.Operations.{rounded, difference, quotient, apartSign, apartSize}

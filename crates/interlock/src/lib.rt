@@ -2,7 +2,6 @@
 // output or of the reflected power says how many volts that is.
 use conversions::Conversion;
 use linear_transformation::LinearTransformation;
-
 ghost use mathlib.Core.Path.{_≡_};
 ghost use Rattle.interlock.specs.Level.{levelCode};
 ghost use Rattle.interlock.specs.Demand3.{Right};

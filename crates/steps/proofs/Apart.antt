@@ -1,6 +1,6 @@
 -- Two different f32 numbers lie at least one part in 2 ^ 24 of the larger apart (`apart`), so that a number divided by a larger one rounds to at most 1 - 2 ^ -24 (`below-one`). Assumes nothing.
 use mathlib.Core.Path.{_≡_, refl, sym, ap, _∙_, subst}
-use Prim.Native.Nat.{ℕ, suc, _+_, _-_, _*_, _^_, _≤_, _<_}
+use Prim.Native.Nat.{ℕ, _+_, _-_, _*_, _^_, _≤_, _<_}
 use native.Mathlib.Nat.{mul-assoc, mul-comm, suc-mul, mul-le-mul-right, lt-of-mul-lt-mul-right, le-trans, le-of-eq}
 use native.Mathlib.Decide.{decLe}
 use native.Mathlib.Omega.{arith}
@@ -8,7 +8,7 @@ use lib.Dec.{lit<}
 use lib.Pow.{pow-add, pow-pos}
 use lib.Ieee.{Float, binary32, size}
 use lib.Ieee.Scale.{grid, overflow}
-use Rattle.steps.specs.Steps.{unit, magnitude, IsNumber}
+use Rattle.steps.specs.Steps.{magnitude, IsNumber}
 use Rattle.steps.proofs.Own.{digits}
 use Rattle.steps.proofs.Round.{grid-mono}
 

@@ -1,7 +1,6 @@
 -- The whole number closest to a fraction n / u: within half of it (`closest-half`), and no whole number is nearer (`closest-least`). Nothing here is about floats. Assumes nothing.
-use mathlib.Core.Path.{_≡_, refl, sym, ap, _∙_, subst}
-use mathlib.Core.Logic.{_⊎_, inl, inr}
-use Prim.Native.Nat.{ℕ, zero, suc, _+_, _-_, _*_, _/_, _%_, _≤_, _<_, compare, Ordering, Ordering·lt, Ordering·eq, Ordering·gt}
+use mathlib.Core.Path.{_≡_, refl, sym, ap, _∙_}
+use Prim.Native.Nat.{ℕ, zero, suc, _+_, _*_, _/_, _%_, _≤_, _<_, compare, Ordering, Ordering·lt, Ordering·eq, Ordering·gt}
 use native.Mathlib.Nat.{add-mul, suc-mul, zero-mul, one-mul, div-add-mod', mod-lt, mul-le-mul-right, le-trans, le-of-eq}
 use native.Mathlib.Decide.{decLt}
 use native.Mathlib.Omega.{arith}
@@ -48,9 +47,9 @@ least : (n u j q : ℕ) → Half n u q → gap (q * u) n ≤ gap (j * u) n
 least n u j q h = elim (decLt j q) [
   | yes l ↦ (let a = apart u j q l in omega arith)
   | no l ↦ elim (decLt q j) [
-      | yes g ↦ (let b = apart u q j g in omega arith)
-      | no g ↦ (let e : j ≡ q = omega arith in le-of-eq (ap (λ (z : ℕ). gap (z * u) n) (sym e)))
-    ]
+    | yes g ↦ (let b = apart u q j g in omega arith)
+    | no g ↦ (let e : j ≡ q = omega arith in le-of-eq (ap (λ (z : ℕ). gap (z * u) n) (sym e)))
+  ]
 ]
 
 pub closest-least : (n u j : ℕ) → 0 < u → gap (closest n u * u) n ≤ gap (j * u) n

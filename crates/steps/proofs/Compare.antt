@@ -1,16 +1,15 @@
 -- Comparisons of finite f32 numbers as comparisons of their steps, zeros of either sign included. `y` is a number that is not negative. Assumes nothing.
-use mathlib.Core.Path.{_≡_, refl, sym, ap, _∙_, subst}
-use Prim.Native.Nat.{ℕ, zero, suc, _+_, _*_, _^_, _≤_, _<_}
-use native.Mathlib.Nat.{mul-le-mul-right, le-of-mul-le-mul-right, le-of-lt, le-of-eq, lt-of-not-le, mul-one, zero-mul, mul-pos, eq-zero-or-pos, add-zero}
+use mathlib.Core.Path.{_≡_, sym, ap, _∙_}
+use Prim.Native.Nat.{ℕ, _+_, _*_, _≤_, _<_}
+use native.Mathlib.Nat.{mul-le-mul-right, le-of-mul-le-mul-right, le-of-lt, le-of-eq, lt-of-not-le, mul-one, zero-mul, mul-pos, eq-zero-or-pos}
 use native.Mathlib.Omega.{arith}
-use mathlib.Core.Bool.{Bool, true, false, true≢false, not, _&&_, _||_}
+use mathlib.Core.Bool.{Bool, true, false, true≢false, _&&_, _||_}
 use mathlib.Core.Logic.{_⊎_, inl, inr}
 use lib.IntN.{ℤ, pos}
 use lib.Dec.{T, ltb, eqb, lt→ltb, ltb→lt, eqb→eq}
 use lib.Pow.{pow-pos}
 use lib.Ieee.{Float, nan, inf, fin, binary32, up, down, lt, le, fits}
 use lib.Ieee.Fits.{up-pos, down-pos, and-l, and-r}
-use lib.Ieee.Exact.{HasValue}
 use lib.Ieee.Order.{le-of-values, transfer}
 use Rattle.steps.specs.Steps.{unit, magnitude, negative, IsNumber}
 use Rattle.steps.proofs.Own.{own}
@@ -109,8 +108,10 @@ negative-le (fin true m d) (fin false n c) p q e f g =
     either : (a b : Bool) → T a → T (a || b)
     either true b t = tt
     either false b t = absurd t
+
     more : (a b : ℕ) → 0 < b → 0 < a + b
     more a b h = omega arith
+
     some : 0 < n * up c
     some = go (eq-zero-or-pos (n * up c))
       where
@@ -160,8 +161,7 @@ across-zero (fin false m d) (inf s) p q e f t = absurd (q .1)
 across-zero (fin false m d) (fin false n c) p q e f t = absurd (true≢false (sym f))
 across-zero (fin false m d) (fin true n c) p q e f t =
     let a = m * up d * down c in
-    let b = n * up c * down d in
-    (
+    let b = n * up c * down d in (
       vanishes (m * up d) (down d) (magnitude (fin false m d)) (down c) (down-pos d) (down-pos c) (own (fin false m d) p .1) (eqb→eq a 0 (and-r (eqb a b) (eqb a 0) t)),
       vanishes (n * up c) (down c) (magnitude (fin true n c)) (down d) (down-pos c) (down-pos d) (own (fin true n c) q .1) (eq-zero a b t),
     )

@@ -1,14 +1,14 @@
 -- The operations that a conversion makes, on finite f32 numbers as steps: a difference is one rounding of the difference of the steps (`difference`), a quotient one rounding of their quotient (`quotient`),
 -- a product with a power of two is exact (`times-power`). And two comparisons (`le-of`, `zero-le-of`). Assumes nothing.
 use mathlib.Core.Path.{_≡_, refl, sym, ap, _∙_, subst}
-use Prim.Native.Nat.{ℕ, zero, suc, _+_, _-_, _*_, _/_, _^_, _≤_, _<_}
+use Prim.Native.Nat.{ℕ, zero, suc, _+_, _-_, _*_, _^_, _<_}
 use native.Mathlib.Nat.{mul-assoc, mul-comm, mul-right-comm, mul-left-comm, mul-one, one-mul, mul-pos, zero-mul, zero-lt-suc, add-mul, mul-sub, eq-of-mul-eq-mul-right, mul-lt-mul-of-pos-right, lt-of-mul-lt-mul-right}
 use native.Mathlib.Omega.{arith}
 use mathlib.Core.Bool.{Bool, true, false, not, _&&_, Bool·beq, cond}
-use lib.IntN.{ℤ, pos, negsuc, negℤ, _-ℤ_}
-use lib.Dec.{T, ltb, leb, eqb, ltb→lt, lt→ltb, eqb·suc-zero}
+use lib.IntN.{pos, _-ℤ_}
+use lib.Dec.{T, ltb, ltb→lt, lt→ltb, eqb·suc-zero}
 use lib.Pow.{pow-add, pow-pos}
-use lib.Ieee.{Float, nan, inf, fin, binary32, up, down, unlike, neg, sum, sub, div, mul, round, fits}
+use lib.Ieee.{Float, nan, inf, fin, binary32, up, down, unlike, sum, sub, div, mul, round}
 use lib.Ieee.Fits.{down-pos, up-pos, round-fits}
 use lib.Ieee.Exact.{HasValue, round-exact}
 use lib.Ieee.Scale.{round-same, grid, overflow, finite}
@@ -152,4 +152,3 @@ times-power x j num under = go x (num .1) (own x num) (digits x num) under
         (rescaled (round binary32 s (a * (1 * 2 ^ j)) (down e * 1)) s (a * (1 * 2 ^ j)) (down e * 1) (magnitude (fin s n e) * 2 ^ j) unit (mul-pos (down-pos e) (zero-lt-suc 0))
         (shape ∙ ap (λ (z : ℕ). z * (down e * 1)) (sym size))
         (round-exact binary32 s (a * (1 * 2 ^ j)) (down e * 1) m (b + j) (mul-pos (down-pos e) (zero-lt-suc 0)) small (rw size at u) shape))
-

@@ -1,13 +1,13 @@
 -- A finite f32 is its whole number of steps: nothing is left over (`own`). It has at most 24 binary digits (`digits`). And what is a / unit in size has a steps (`steps-of`).
 -- Assumes nothing.
-use mathlib.Core.Path.{_≡_, refl, sym, ap, _∙_, subst}
+use mathlib.Core.Path.{_≡_, refl, sym, ap, _∙_}
 use Prim.Native.Nat.{ℕ, zero, suc, _+_, _-_, _*_, _/_, _^_, _≤_, _<_}
 use native.Mathlib.Nat.{mul-assoc, mul-right-comm, mul-div-cancel, zero-mul, mul-one, one-mul, not-le-of-lt, lt-of-not-le, le-of-suc-le-suc, eq-of-mul-eq-mul-right}
 use native.Mathlib.Omega.{arith}
-use mathlib.Core.Bool.{Bool, true, false}
+use mathlib.Core.Bool.{Bool}
 use lib.IntN.{ℤ, pos, negsuc}
-use lib.Dec.{T, ltb, leb, eqb, ltb→lt, leb→le, lit<, lit≤}
-use lib.Pow.{pow-add, pow-pos, pow-lt}
+use lib.Dec.{T, ltb, leb, ltb→lt, leb→le, lit<}
+use lib.Pow.{pow-add, pow-lt}
 use lib.Ieee.{Float, nan, inf, fin, binary32, up, down, fits}
 use lib.Ieee.Fits.{and-l, and-r, down-pos}
 use lib.Ieee.Scale.{finite}

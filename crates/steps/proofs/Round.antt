@@ -3,8 +3,8 @@
 -- And a larger fraction never gets fewer steps (`grid-mono`). Assumes nothing.
 use mathlib.Core.Path.{_≡_, refl, sym, ap, _∙_, subst}
 use mathlib.Core.Logic.{_⊎_, inl, inr}
-use Prim.Native.Nat.{ℕ, zero, suc, _+_, _-_, _*_, _/_, _^_, _≤_, _<_, zero-le}
-use native.Mathlib.Nat.{mul-assoc, mul-comm, mul-right-comm, mul-left-comm, mul-one, mul-pos, mul-le-mul-left, mul-le-mul-right, le-trans, le-of-eq, le-of-lt, le-of-suc-le-suc, lt-of-not-le, le-div-iff-mul-le, le-of-mul-le-mul-right, eq-of-mul-eq-mul-right, add-mul, eq-zero-or-pos, not-le-of-lt}
+use Prim.Native.Nat.{ℕ, suc, _+_, _-_, _*_, _/_, _^_, _≤_, _<_}
+use native.Mathlib.Nat.{mul-assoc, mul-comm, mul-left-comm, mul-one, mul-pos, mul-le-mul-left, mul-le-mul-right, le-trans, le-of-eq, le-of-lt, le-of-suc-le-suc, lt-of-not-le, le-div-iff-mul-le, le-of-mul-le-mul-right, eq-of-mul-eq-mul-right, add-mul, eq-zero-or-pos, not-le-of-lt}
 use native.Mathlib.Decide.{decLe, decLt}
 use native.Mathlib.Omega.{arith}
 use mathlib.Core.Bool.{Bool, true, false, true≢false, cond, _&&_, _||_}
@@ -14,10 +14,9 @@ use lib.Ieee.{Float, nan, inf, fin, binary32, prec, low, up, down, size, units, 
 use lib.Ieee.Digits.{size-reaches}
 use lib.Ieee.Fits.{round-is, down-pos}
 use lib.Ieee.Exact.{HasValue, units-val}
-use lib.Ieee.Nearest.{closest}
 use lib.Ieee.Order.{drop, kept, round-mono, transfer}
-use lib.Ieee.Scale.{grid, overflow, finite}
-use Rattle.steps.specs.Steps.{unit, magnitude, IsNumber, gap, Nearest, HalfStep, Relative}
+use lib.Ieee.Scale.{grid, overflow}
+use Rattle.steps.specs.Steps.{unit, gap, Nearest, HalfStep, Relative}
 use Rattle.steps.proofs.Own.{digits}
 use Rattle.steps.proofs.Closest.{Half, closest-half, closest-least}
 
@@ -170,6 +169,7 @@ grid-mono a b c d B D h under = go (decLt (grid binary32 a b) (overflow binary32
   where
     there : HasValue (round binary32 false c d) false (grid binary32 c d) unit
     there = round-at false c d under
+
     go : Dec (grid binary32 a b < overflow binary32) → grid binary32 a b ≤ grid binary32 c d
     go (yes l) = le-steps (round binary32 false a b) (round binary32 false c d) (grid binary32 a b) (grid binary32 c d) unit (pow-pos 149) (round-at false a b l) there (round-mono binary32 a b c d B D h)
     go (no l) = absurd (not-under (round binary32 false c d) (grid binary32 c d) unit there (rw (round-over false a b (le-of-suc-le-suc (lt-of-not-le l))) at (round-mono binary32 a b c d B D h)))

@@ -4,8 +4,8 @@ use Prim.Native.Nat.{ℕ, zero, suc, _+_, _-_, _*_, _≤_, _<_}
 use native.Mathlib.Nat.{mul-zero, add-suc, suc-add, add-zero, zero-add}
 use native.Mathlib.Omega.{arith}
 use mathlib.Core.Bool.{Bool, true, false, not, _&&_, Bool·beq, cond}
-use lib.IntN.{ℤ, pos, negsuc, negℤ, subℕ, _+ℤ_, _*ℤ_, +ℤ-idl, +ℤ-idr}
-use lib.Signed.{leZ, ltZ, _≤ℤ_, _<ℤ_}
+use lib.IntN.{pos, negsuc, negℤ, subℕ, _+ℤ_, _*ℤ_, +ℤ-idl, +ℤ-idr}
+use lib.Signed.{_≤ℤ_, _<ℤ_}
 use lib.Dec.{T, ltb, ltb→lt, nltb→le, lt→ltb, le→leb}
 use Rattle.steps.specs.Steps.{signed}
 
@@ -67,6 +67,7 @@ neg-pos zero b = first ∙ turned 0 b (ltb 0 b) (ltb b 0) (ltb→lt 0 b) (nltb�
     go : (m : Bool) → (T m → b < 0) → pos (0 + b) ≡ signed m (cond m (0 - b) (b - 0))
     go true f = absurd (let h = f tt in omega arith)
     go false f = ap pos (omega arith)
+
     first : pos (0 + b) ≡ signed (ltb b 0) (cond (ltb b 0) (0 - b) (b - 0))
     first = go (ltb b 0) (ltb→lt b 0)
 neg-pos (suc a) b = subtracted b (suc a) ∙ turned (suc a) b (ltb (suc a) b) (ltb b (suc a)) (ltb→lt (suc a) b) (nltb→le (suc a) b) (ltb→lt b (suc a)) (nltb→le b (suc a))

@@ -3,7 +3,7 @@ use Prim.Native.Nat.{ℕ, _+_, _-_, _*_, _/_, _^_, _≤_}
 use mathlib.Core.Bool.{Bool, true, false}
 use lib.IntN.{ℤ, pos, negℤ}
 use lib.Dec.{T}
-use lib.Ieee.{Float, nan, inf, fin, Format, binary32, up, down, fits}
+use lib.Ieee.{Float, nan, inf, fin, binary32, up, down, fits}
 use lib.Ieee.Scale.{finite}
 
 -- how many steps make 1.0

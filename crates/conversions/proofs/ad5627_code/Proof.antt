@@ -4,7 +4,6 @@ use Rattle.conversions.proofs.ad5627_code.Tie as tie
 use Rattle.conversions.proofs.ad5627_code.Reads as reads
 use Rattle.conversions.proofs.ad5627_code.Lts as lts
 use Rattle.conversions.proofs.code_of.Reads as code-of-reads
-use mathlib.Core.Path.{_≡_, sym}
 use borrow.Author.Tests.{le-leb, lt-leb}
 
 -- src/lib.rt:40:17

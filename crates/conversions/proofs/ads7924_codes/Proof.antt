@@ -4,7 +4,6 @@ use Rattle.conversions.proofs.ads7924_codes.Tie as tie
 use Rattle.conversions.proofs.ads7924_codes.Reads as reads
 use Rattle.conversions.proofs.ads7924_codes.Lts as lts
 use Rattle.conversions.proofs.limit_of.Reads as limit-of-reads
-use mathlib.Core.Path.{_≡_, sym}
 use borrow.Author.Tests.{le-leb, lt-leb}
 
 -- src/lib.rt:76:9

@@ -4,7 +4,7 @@ use Rattle.conversions.proofs.dac7571_code.Tie as tie
 use Rattle.conversions.proofs.dac7571_code.Reads as reads
 use Rattle.conversions.proofs.dac7571_code.Lts as lts
 use Rattle.conversions.proofs.code_of.Reads as code-of-reads
-use mathlib.Core.Path.{_≡_, sym, ap, _∙_, subst}
+use mathlib.Core.Path.{sym, ap, _∙_, subst}
 use lib.Dec.{T}
 use Rattle.conversions.specs.declared.Conversion.the-variants.{Code}
 use Rattle.conversions.proofs.Cuts.{dac-small, mask-nothing}

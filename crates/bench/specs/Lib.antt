@@ -1,0 +1,2 @@
+-- The bench sheet.
+pub mod Sheet
