@@ -93,7 +93,7 @@ scale-3-3 = scale v3-3 (13841203 * 2 ^ 127) tt tt refl refl (lit< tt)
 
 -- ---- the dac7571's mask
 
-zero-is : zero ≡ nil
+pub zero-is : zero ≡ nil
 unfolding ofBits
 zero-is = refl
 

@@ -14,12 +14,12 @@ use lib.Ieee.Scale.{grid, overflow}
 use borrow.Author.Tests.{le-leb, lt-leb}
 use Rattle.steps.specs.Steps.{unit, magnitude, negative, IsNumber}
 use Rattle.steps.proofs.Round.{grid-mono}
-use Rattle.steps.proofs.Compare.{nil, steps-of-le, le-of-steps, at-least-zero, minus-zero, negative-le}
+use Rattle.steps.proofs.Compare.{steps-of-le, le-of-steps, at-least-zero, minus-zero, negative-le}
 use Rattle.conversions.specs.declared.Conversion.{Conversion}
 use Rattle.conversions.specs.declared.Conversion.the-variants.{Code, Range}
 use Rattle.conversions.specs.Constants.{zero, v2-5}
 use Rattle.conversions.specs.Codes.{codeOf, ad5627Code}
-use Rattle.conversions.proofs.Cuts.{share, scale-2-5, code-at, code-below}
+use Rattle.conversions.proofs.Cuts.{share, scale-2-5, code-at, code-below, zero-is}
 
 -- half of the steps in one
 abbrev pub half : ℕ
@@ -29,10 +29,6 @@ half = 2 ^ 148
 pub full : magnitude v2-5 ≡ 5 * half
 unfolding ofBits magnitude
 full = refl
-
-zero-is : zero ≡ nil
-unfolding ofBits
-zero-is = refl
 
 zero-number : IsNumber zero
 unfolding ofBits fits

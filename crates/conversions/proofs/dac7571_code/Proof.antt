@@ -1,27 +1,21 @@
-use borrow.Author.Needs.{needs}
-use Rattle.conversions.proofs.dac7571_code.Statement.{statement}
-use Rattle.conversions.proofs.dac7571_code.Tie as tie
-use Rattle.conversions.proofs.dac7571_code.Reads as reads
-use Rattle.conversions.proofs.dac7571_code.Lts as lts
-use Rattle.conversions.proofs.code_of.Reads as code-of-reads
+-- `conversions::dac7571_code` meets its contract: each way out knows how the two tests went, and what passes both has a code of twelve bits, which the mask leaves as it is. Assumes nothing.
 use mathlib.Core.Path.{sym, ap, _∙_, subst}
 use lib.Dec.{T}
+use borrow.Author.Needs.{needs}
 use Rattle.conversions.specs.declared.Conversion.the-variants.{Code}
 use Rattle.conversions.proofs.Cuts.{dac-small, mask-nothing}
+use Rattle.conversions.proofs.dac7571_code.Statement.{statement}
+use Rattle.conversions.proofs.dac7571_code.Tie as tie
 
--- src/lib.rt:54:9
 returns : tie.Need-returns
 returns c = rw (c .if1 .taken)
 
--- src/lib.rt:57:9
 returns-2 : tie.Need-returns-2
 returns-2 c = rw (c .before .if1 .left, c .if2 .taken)
 
--- src/lib.rt:60:16
 code-of-requires : tie.Need-code-of-requires
 code-of-requires c κs = search needs
 
--- src/lib.rt:50:1
 returns-3 : tie.Need-returns-3
 returns-3 c = let v = c .before .before .before .args .voltage in
     let small = dac-small v (subst T (sym (c .before .before .before .good .0 .1)) tt) (c .before .before .if1 .left) (c .before .if2 .left) in
