@@ -1,0 +1,2 @@
+-- What a measurement does and answers.
+pub mod Voltage
