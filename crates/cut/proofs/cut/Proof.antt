@@ -1,23 +1,18 @@
 -- `cut::cut` meets its contract. Only a NaN differs from itself. Any other f32 is what its pattern is read as, and the pattern is no NaN's, so without the sign it is the infinity's or less.
 -- Assumes nothing.
-use mathlib.Core.Path.{_≡_, refl, sym, ap, _∙_, subst}
+use mathlib.Core.Path.{_≡_, sym, ap, _∙_, subst}
 use mathlib.Core.Bool.{false}
 use Prim.Native.Nat.{_%_, _^_}
 use native.Mathlib.Omega.{arith}
 use lib.Dec.{T}
-use lib.Ieee.{Float, nan, inf, fin, binary32, isNan, ne, toBits, ofBits, toUnsigned}
+use lib.Ieee.{binary32, isNan, toBits, ofBits, toUnsigned}
 use lib.Ieee.Bits.{ofBits-toBits, nanBits-is, nanBits-above}
 use lib.Ieee.Compare.{differs-from-itself}
 use borrow.Author.Tests.{ltb-false}
+use Rattle.pattern.proofs.Nan.{equals-itself}
 use Rattle.cut.proofs.Fields.{sign-set}
 use Rattle.cut.proofs.cut.Statement.{statement}
 use Rattle.cut.proofs.cut.Tie as tie
-
-equals-itself : (x : Float) → ne x x ≡ false → isNan x ≡ false
-unfolding ne isNan
-equals-itself nan h = h
-equals-itself (inf s) h = refl
-equals-itself (fin s m e) h = refl
 
 -- what owning an f32 tells: the format holds it, so it is what its pattern is read as
 own-pattern : (c : tie.Start) → ofBits binary32 (toBits binary32 (c .args .x)) ≡ c .args .x

@@ -1,0 +1,2 @@
+-- How a program tells a NaN.
+pub mod Nan
