@@ -41,11 +41,11 @@ transfer-kind (WriteRead address command count) = lit≤ tt
 transfer-kind (Read address count) = lit≤ tt
 
 -- the free tail, lent and handed back with a row at its front
-pub put-back : (l : List ℕ) (u : ℕ) (b ys : List ℕ) → length b ≡ 16 → 16 * (u + 1) ≤ length l
+pub put-back : (l : List ℕ) (u : ℕ) (b : List ℕ) {ys : List ℕ} → length b ≡ 16 → 16 * (u + 1) ≤ length l
     → ys ≡ b ++ drop 16 (take (length l - 16 * u) (drop (16 * u) l))
     → take (16 * u) l ++ (ys ++ drop (length l - 16 * u) (drop (16 * u) l)) ≡ put l u b
 unfolding put
-put-back l u b ys n h e =
+put-back l u b n h e =
     let a = 16 * u in
     let none : drop (length l - a) (drop a l) ≡ [] = drop-of-length-le (drop a l) {i = length l - a} (omega (arith, length-drop a l)) in
     let all : take (length l - a) (drop a l) ≡ drop a l = take-all (length l - a) (drop a l) (omega (arith, length-drop a l)) in

@@ -2,7 +2,7 @@
 -- Assumes nothing.
 use mathlib.Core.Path.{_≡_, refl, sym, _∙_}
 use mathlib.Core.List.{List}
-use Prim.Native.Nat.{ℕ, _+_, _≤_}
+use Prim.Native.Nat.{ℕ, _+_, _*_, _≤_, _<_}
 use native.Mathlib.Nat.{add-zero, add-assoc, le-trans}
 use native.Mathlib.Omega.{arith}
 use lib.Dec.{lit≤}
@@ -40,6 +40,10 @@ module _ {A : Type 0} {m : Run A} {rs l : List ℕ} {c : Cursor} {n t : ℕ} {l�
 
 pub room-less : {c : Cursor} {n t n′ t′ : ℕ} {l rs : List ℕ} → Room c n t l rs → n′ ≤ n → t′ ≤ t → Room c n′ t′ l rs
 room-less room h g = record { slot = room .slot; rows = omega (arith, room .rows); replies = omega (arith, room .replies) }
+
+-- room for a note
+pub room-note : {c : Cursor} {l rs : List ℕ} → Room c 1 0 l rs → (c .slot < 8) × (16 * (c .used + 1) ≤ length l)
+room-note room = (room .slot, room .rows)
 
 -- ---- an answer at once
 
@@ -89,15 +93,15 @@ module _ {A : Type 0} {m : Run Got} {rs l : List ℕ} {c : Cursor} {n t : ℕ} {
   unfolding onGot
   does-go a k d e f = does-then (onGot a k) d e f
 
--- ---- one row
+-- ---- one row: h is the head that was sent, and g what came back
 
-module _ (rs l : List ℕ) (c : Cursor) (h : Head) where
-  pub does-note : (w : Note) {l′ : List ℕ} → h ≡ noteHead w → l′ ≡ put l (c .used) (laid (c .slot) h (Acked noData))
+module _ {rs l : List ℕ} {c : Cursor} {h : Head} {l′ : List ℕ} where
+  pub does-note : (w : Note) → h ≡ noteHead w → l′ ≡ put l (c .used) (laid (c .slot) h (Acked noData))
       → Does (note w) rs l c 1 0 l′ (record { slot = c .slot; used = c .used + 1; taken = c .taken }) tt
   unfolding note written bytes
   does-note w e f = record { ans = refl; log = rw (← e) f; next = refl; rows = lit≤ tt; taken = omega arith }
 
-  pub does-transfer : (op : Transfer) (g : Got) {l′ : List ℕ} → h ≡ transferHead op → g ≡ gotAt rs (c .taken) (h .ins) → l′ ≡ put l (c .used) (laid (c .slot) h g)
+  pub does-transfer : (op : Transfer) {g : Got} → h ≡ transferHead op → g ≡ gotAt rs (c .taken) (h .ins) → l′ ≡ put l (c .used) (laid (c .slot) h g)
       → Does (transfer op) rs l c 1 1 l′ (record { slot = c .slot; used = c .used + 1; taken = c .taken + 1 }) g
   unfolding transfer written bytes
-  does-transfer op g e s f = record { ans = rw (← e) s; log = rw (← e, ← s) f; next = refl; rows = lit≤ tt; taken = omega arith }
+  does-transfer op e s f = record { ans = rw (← e) s; log = rw (← e, ← s) f; next = refl; rows = lit≤ tt; taken = omega arith }

@@ -4,7 +4,7 @@ ghost use mathlib.Core.Path.{_≡_};
 ghost use mathlib.Core.List.{List, _++_};
 ghost use Prim.Native.Nat.{ℕ, _+_, _*_, _≤_, _<_};
 ghost use lib.ListN.{length, drop};
-ghost use Rattle.bus.specs.Rows.{levelOf, noData, statusOf, dataOf, noteHead, transferHead, laid, put};
+ghost use Rattle.bus.specs.Rows.{head, levelOf, noData, statusOf, dataOf, noteHead, transferHead, laid, put};
 ghost use Rattle.bus.specs.Replies.{keptOf, gotAt};
 ghost use Rattle.bus.specs.Run.{note, transfer, Does, Room};
 
@@ -88,46 +88,36 @@ fn level(on: bool) -> u8
     if on { 1 } else { 0 }
 }
 
+fn row_head(kind: u8, address: u8, outs: u8, ins: u8, out0: u8, out1: u8, out2: u8) -> Head
+    ensures { λ r. ⌜ r ≡ head kind address outs ins out0 out1 out2 ⌝ }
+{
+    Head {
+        kind,
+        address,
+        outs,
+        ins,
+        out0,
+        out1,
+        out2,
+    }
+}
+
 fn note_head(what: Note) -> Head
     ensures { λ r. ⌜ r ≡ noteHead what ⌝ }
 {
     match what {
         Note::SignalOn(on) => {
             let out = level(on);
-            Head {
-                kind: 0,
-                address: 0,
-                outs: 1,
-                ins: 0,
-                out0: out,
-                out1: 0,
-                out2: 0,
-            }
+            row_head(0, 0, 1, 0, out, 0, 0)
         }
         Note::EnablePower(on) => {
             let out = level(on);
-            Head {
-                kind: 0,
-                address: 1,
-                outs: 1,
-                ins: 0,
-                out0: out,
-                out1: 0,
-                out2: 0,
-            }
+            row_head(0, 1, 1, 0, out, 0, 0)
         }
         Note::Wait(time) => {
             let high = (time / 256) as u8;
             let low = (time % 256) as u8;
-            Head {
-                kind: 4,
-                address: 0,
-                outs: 2,
-                ins: 0,
-                out0: high,
-                out1: low,
-                out2: 0,
-            }
+            row_head(4, 0, 2, 0, high, low, 0)
         }
     }
 }
@@ -140,51 +130,19 @@ fn transfer_head(what: Transfer) -> Head
             address,
             first,
             second,
-        } => Head {
-            kind: 1,
-            address,
-            outs: 2,
-            ins: 0,
-            out0: first,
-            out1: second,
-            out2: 0,
-        },
+        } => row_head(1, address, 2, 0, first, second, 0),
         Transfer::Write3 {
             address,
             first,
             second,
             third,
-        } => Head {
-            kind: 1,
-            address,
-            outs: 3,
-            ins: 0,
-            out0: first,
-            out1: second,
-            out2: third,
-        },
+        } => row_head(1, address, 3, 0, first, second, third),
         Transfer::WriteRead {
             address,
             command,
             count,
-        } => Head {
-            kind: 2,
-            address,
-            outs: 1,
-            ins: count,
-            out0: command,
-            out1: 0,
-            out2: 0,
-        },
-        Transfer::Read { address, count } => Head {
-            kind: 3,
-            address,
-            outs: 0,
-            ins: count,
-            out0: 0,
-            out1: 0,
-            out2: 0,
-        },
+        } => row_head(2, address, 1, count, command, 0, 0),
+        Transfer::Read { address, count } => row_head(3, address, 0, count, 0, 0, 0),
     }
 }
 

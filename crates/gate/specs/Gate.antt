@@ -28,7 +28,7 @@ abbrev pub gateOf : ℕ → ℕ → ℕ → ℕ → Gate
 gateOf slot used log replies = cond (leb slot 7) (roomOf slot used log replies) (Shut Slot)
 
 -- document 01's number of each refusal
-abbrev pub number : Bar → ℕ
-number Slot = 1
-number Log = 5
-number Replies = 6
+abbrev pub numberOf : Bar → ℕ
+numberOf Slot = 1
+numberOf Log = 5
+numberOf Replies = 6

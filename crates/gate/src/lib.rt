@@ -2,7 +2,7 @@
 // let in touches the log.
 use bus::Cursor;
 ghost use mathlib.Core.Path.{_≡_};
-ghost use Rattle.gate.specs.Gate.{roomOf, gateOf};
+ghost use Rattle.gate.specs.Gate.{roomOf, gateOf, numberOf};
 
 // The rows that must be free, and the reply bytes that must be there, for any call.
 pub const FREE_ROWS: usize = 20;
@@ -57,4 +57,15 @@ pub fn gate_of(slot: u8, used: usize, log: usize, replies: usize) -> Gate
         return Gate::Shut(bar);
     }
     room_of(slot, used, log, replies)
+}
+
+// The number of a refusal.
+pub fn number(bar: Bar) -> u8
+    ensures { λ r. ⌜ r ≡ numberOf bar ⌝ }
+{
+    match bar {
+        Bar::Slot => 1,
+        Bar::Log => 5,
+        Bar::Replies => 6,
+    }
 }

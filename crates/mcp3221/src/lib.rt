@@ -4,9 +4,10 @@ use bus::Got;
 use bus::Transfer;
 use gate::Bar;
 use gate::Gate;
+ghost use mathlib.Core.Path.{_≡_};
 ghost use Rattle.bus.specs.Run.{Does, Room};
 ghost use Rattle.gate.specs.Enter.{Enters};
-ghost use Rattle.mcp3221.specs.Voltage.{getVoltage, defaultVoltage};
+ghost use Rattle.mcp3221.specs.Voltage.{getVoltage, defaultVoltage, numberOf};
 ghost use Rattle.mcp3221.specs.declared.Answer.the-variants.{Refused};
 
 // What a measurement answers.
@@ -76,5 +77,18 @@ pub fn get_voltage(log: &mut [u8], used: usize, replies: &[u8], slot: u8) -> Tol
                 used: next.used,
             }
         }
+    }
+}
+
+// The number of an answer.
+pub fn number(answer: Answer) -> u8
+    ensures { λ r. ⌜ r ≡ numberOf answer ⌝ }
+{
+    match answer {
+        Answer::Ran(reading) => match reading {
+            Reading::Volts(_) => 0,
+            Reading::Bus => 12,
+        },
+        Answer::Refused(bar) => gate::number(bar),
     }
 }

@@ -1,14 +1,12 @@
+-- `bus::kept` meets its contract: its test is the definition's.
+-- Assumes nothing.
 use Rattle.bus.proofs.kept.Statement.{statement}
 use Rattle.bus.proofs.kept.Tie as tie
-use Rattle.bus.proofs.kept.Reads as reads
-use Rattle.bus.proofs.kept.Lts as lts
 use borrow.Author.Tests.{lt-ltb, le-ltb}
 
--- src/lib.rt:226:1
 returns : tie.Need-returns
 returns c = rw (lt-ltb _ _ (c .if1 .taken))
 
--- src/lib.rt:226:1
 returns-2 : tie.Need-returns-2
 returns-2 c = rw (le-ltb _ _ (c .if1 .left))
 
