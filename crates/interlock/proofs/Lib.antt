@@ -6,3 +6,4 @@ pub mod Volts
 pub mod Demand3
 pub mod Rising
 pub mod Impostors
+pub mod Edges
