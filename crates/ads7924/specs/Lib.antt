@@ -1,0 +1,4 @@
+-- The chip's registers, and what each call does on the bus and answers.
+pub mod Layout
+pub mod Calls
+pub mod Numbers
