@@ -7,13 +7,17 @@ use lib.ListN.{getD, take, drop}
 use lib.Ieee.{Float, nan, binary32, round, neg, ofBits, toBits, toUnsigned, ofInt, mul, div, sub, le, lt}
 use Rattle.linear_transformation.specs.Line.{line, invertOf}
 use Rattle.conversions.specs.Constants.{v2-5, v3-3}
-use Rattle.conversions.specs.Codes.{codeOf, ads7924Volts}
+use Rattle.conversions.specs.Codes.{codeOf}
 use Rattle.bus.specs.Rows.{Row, bytes, laid}
 use Rattle.bus.specs.Replies.{gotAt, dataAt}
-use Rattle.bus.specs.Run.{Run, done, bind, transfer, onGot}
+use Rattle.bus.specs.Run.{Run, done, bind, mapped, transfer, onGot}
 use Rattle.mcp3221.specs.declared.Reading.{Reading}
 use Rattle.mcp3221.specs.declared.Reading.the-variants as M
 use Rattle.mcp3221.specs.Voltage.{getVoltage}
+use Rattle.ads7924.specs.declared.Channel.the-variants.{Zero}
+use Rattle.ads7924.specs.declared.Reading as P1
+use Rattle.ads7924.specs.declared.Reading.the-variants as P2
+use Rattle.ads7924.specs.Calls as P
 use Rattle.dac7571.specs.Voltage as B
 use Rattle.ad5627.specs.declared.Dac.the-variants.{A}
 use Rattle.ad5627.specs.declared.Dac.the-variants as D
@@ -50,6 +54,10 @@ abbrev pub measured : Reading → List ℕ
 measured (M.Volts v) = pattern v ∷ []
 measured M.Bus = []
 
+abbrev pub measuredOne : P1.Reading → List ℕ
+measuredOne (P2.Volts v) = pattern v ∷ []
+measuredOne P2.Bus = []
+
 pub sheet : List (List ℕ)
 sheet =
     (1 ∷ sent (setVoltage (decimal 125 100) A))
@@ -63,7 +71,7 @@ sheet =
     ∷ (6 ∷ sent (B.setVoltage (decimal 33 10)))
     ∷ (6 ∷ sent (B.setVoltage nan))
     ∷ (7 ∷ pattern (decimal 165 100) ∷ measured (getVoltage v3-3 (acknowledged 0xf8 0x00) 0 0 .ans))
-    ∷ (8 ∷ pattern (decimal 1717 1000) ∷ pattern (ads7924Volts 0x800) ∷ [])
+    ∷ (8 ∷ pattern (decimal 1717 1000) ∷ measuredOne (P.getVoltage Zero (acknowledged 0x80 0x00 ++ acknowledged 0x80 0x00 ++ acknowledged 0 0 ++ acknowledged 0 0) 0 0 .ans))
     ∷ (9 ∷ sent (setVoltage (invertOf (line (decimal 20 1) (neg (decimal 10 1))) (decimal 15 1)) D.B))
     ∷ []
 
@@ -86,5 +94,5 @@ expected =
     ∷ []
 
 pub bench : sheet ≡ expected
-unfolding sheet expected round ofBits toBits neg le lt mul div sub toUnsigned ofInt setVoltage B.setVoltage getVoltage done bind transfer onGot gotAt dataAt bytes laid
+unfolding sheet expected round ofBits toBits neg le lt mul div sub toUnsigned ofInt setVoltage B.setVoltage getVoltage P.getVoltage P.sample mapped done bind transfer onGot gotAt dataAt bytes laid
 bench = refl
