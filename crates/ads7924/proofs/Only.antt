@@ -10,8 +10,14 @@ use Rattle.ads7924.proofs.entry.default as default
 use Rattle.ads7924.proofs.entry.default.Reads as default-reads
 use Rattle.ads7924.proofs.entry.get_voltage as get-voltage
 use Rattle.ads7924.proofs.entry.get_voltage.Reads as get-voltage-reads
+use Rattle.ads7924.proofs.entry.get_voltages as get-voltages
+use Rattle.ads7924.proofs.entry.get_voltages.Reads as get-voltages-reads
+use Rattle.ads7924.proofs.entry.clear_alarm as clear-alarm
+use Rattle.ads7924.proofs.entry.clear_alarm.Reads as clear-alarm-reads
+use Rattle.ads7924.proofs.entry.set_thresholds as set-thresholds
+use Rattle.ads7924.proofs.entry.set_thresholds.Reads as set-thresholds-reads
 
--- a promise over what is returned and what is left has one of each
+-- of what is returned and what is left, a promise has one
 abbrev Only : {R S : Type 0} → (S → List ℕ) → (R → S → Type 0) → Type 0
 Only {R} {S} log Post = (r r′ : R) (s s′ : S) → Post r s → Post r′ s′ → (log s ≡ log s′) × (r ≡ r′)
 
@@ -21,3 +27,12 @@ module _ (κs : Lfts 2) where
 
   pub only-voltage : (a : ArgsD get-voltage.signature κs) → Only (λ s. now (s .0)) (get-voltage-reads.Post κs a)
   only-voltage a r r′ s s′ p q = let e = enters-unique p q in (e .0, λ i. record { answer = e .2 i; used = e .1 i })
+
+  pub only-voltages : (a : ArgsD get-voltages.signature κs) → Only (λ s. now (s .0)) (get-voltages-reads.Post κs a)
+  only-voltages a r r′ s s′ p q = let e = enters-unique p q in (e .0, λ i. record { answer = e .2 i; used = e .1 i })
+
+  pub only-alarm : (a : ArgsD clear-alarm.signature κs) → Only (λ s. now (s .0)) (clear-alarm-reads.Post κs a)
+  only-alarm a r r′ s s′ p q = let e = enters-unique p q in (e .0, λ i. record { answer = e .2 i; used = e .1 i })
+
+  pub only-thresholds : (a : ArgsD set-thresholds.signature κs) → Only (λ s. now (s .0)) (set-thresholds-reads.Post κs a)
+  only-thresholds a r r′ s s′ p q = let e = enters-unique p q in (e .0, λ i. record { answer = e .2 i; used = e .1 i })

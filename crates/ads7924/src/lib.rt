@@ -217,17 +217,17 @@ fn sample_at(log: &mut [u8], replies: &[u8], at: Cursor, command: u8, count: u8)
     let Got::Acked(data) = got else {
         return read;
     };
-    let awake = write_register(log, replies, next, MODE_CONTROL, AWAKE);
-    let got = awake.got;
-    let next = awake.next;
+    let woken = write_register(log, replies, next, MODE_CONTROL, AWAKE);
+    let got = woken.got;
+    let next = woken.next;
     let Got::Acked(_) = got else {
-        return awake;
+        return woken;
     };
-    let scanning = write_register(log, replies, next, MODE_CONTROL, SCANNING);
-    let got = scanning.got;
-    let next = scanning.next;
+    let resumed = write_register(log, replies, next, MODE_CONTROL, SCANNING);
+    let got = resumed.got;
+    let next = resumed.next;
     let Got::Acked(_) = got else {
-        return scanning;
+        return resumed;
     };
     let got = Got::Acked(data);
     Taken { got, next }

@@ -1,64 +1,49 @@
-use borrow.Author.Needs.{needs}
-use Rattle.ads7924.proofs.default_at.Statement.{statement}
-use Rattle.ads7924.proofs.default_at.Tie as tie
-use Rattle.ads7924.proofs.default_at.Reads as reads
-use Rattle.ads7924.proofs.default_at.Lts as lts
-use Rattle.ads7924.proofs.not_opened.Reads as not-opened-reads
-use Rattle.ads7924.proofs.write_register.Reads as write-register-reads
-use Rattle.bus.proofs.add_note.Reads as add-note-reads
+-- `ads7924::default_at` meets its contract: each transfer failed or did not, and each way out is the run that the definition has there. Assumes nothing.
 use mathlib.Core.Path.{_∙_, refl}
 use lib.Dec.{lit≤}
+use borrow.Author.Needs.{needs}
 use Rattle.bus.proofs.Runs.{does-done, does-more, does-fail, does-go, does-then, room-after, room-less}
 use Rattle.ads7924.specs.Calls.{opening}
+use Rattle.ads7924.proofs.default_at.Statement.{statement}
+use Rattle.ads7924.proofs.default_at.Tie as tie
 
--- src/lib.rt:173:9
 write-register-requires : tie.Need-write-register-requires
 write-register-requires c κs = search needs
 
 enum-told : tie.Need-enum-told
 enum-told c = search needs
 
--- src/lib.rt:177:9
 enum-told-2 : tie.Need-enum-told-2
 enum-told-2 c = search needs
 
--- src/lib.rt:177:9
 not-opened-requires : tie.Need-not-opened-requires
 not-opened-requires c κs = search needs
 
--- src/lib.rt:177:9
 same-length : tie.Need-same-length
 same-length c = search needs
 
--- src/lib.rt:177:9
 returns : tie.Need-returns
 unfolding opening
 returns c = rw (c .not-opened .ensures) (does-more (does-fail _ (c .before .before .before .before .before .before .write-register .ensures) (c .before .enum-told2 .given .1)) (lit≤ tt) (lit≤ tt))
 
--- src/lib.rt:180:9
 add-note-requires : tie.Need-add-note-requires
 add-note-requires c κs = let room = room-after (c .before .before .before .before .before .before .write-register .ensures) {n′ = 1} {t′ = 0} (room-less (c .before .before .before .before .before .before .before .before .before .before .pre) (lit≤ tt) (lit≤ tt)) in (room .slot, room .rows)
 
--- src/lib.rt:181:9
 write-register-requires-2 : tie.Need-write-register-requires-2
 write-register-requires-2 c κs = room-after (c .before .before .before .add-note .ensures _) (room-after (c .before .before .before .before .before .before .before .before .before .before .write-register .ensures) (room-less (c .before .before .before .before .before .before .before .before .before .before .before .before .before .before .pre) (lit≤ tt) (lit≤ tt)))
 
 enum-told-3 : tie.Need-enum-told-3
 enum-told-3 c = search needs
 
--- src/lib.rt:185:9
 enum-told-4 : tie.Need-enum-told-4
 enum-told-4 c = search needs
 
--- src/lib.rt:185:9
 not-opened-requires-2 : tie.Need-not-opened-requires-2
 not-opened-requires-2 c κs = search needs
 
--- src/lib.rt:185:9
 same-length-2 : tie.Need-same-length-2
 same-length-2 c = search needs
 
--- src/lib.rt:185:9
 returns-2 : tie.Need-returns-2
 unfolding opening
 returns-2 c = rw (c .not-opened2 .ensures)
@@ -67,7 +52,6 @@ returns-2 c = rw (c .not-opened2 .ensures)
     (does-then _ (c .before .before .before .before .before .before .before .before .before .before .add-note .ensures _) refl
     (does-fail _ (c .before .before .before .before .before .before .write-register2 .ensures) (c .before .enum-told4 .given .1)))) (lit≤ tt) (lit≤ tt))
 
--- src/lib.rt:187:9
 write-register-requires-3 : tie.Need-write-register-requires-3
 write-register-requires-3 c κs = room-after (c .before .before .before .before .before .before .write-register2 .ensures)
     (room-after (c .before .before .before .before .before .before .before .before .before .before .add-note .ensures _)
@@ -76,19 +60,15 @@ write-register-requires-3 c κs = room-after (c .before .before .before .before 
 enum-told-5 : tie.Need-enum-told-5
 enum-told-5 c = search needs
 
--- src/lib.rt:191:9
 enum-told-6 : tie.Need-enum-told-6
 enum-told-6 c = search needs
 
--- src/lib.rt:191:9
 not-opened-requires-3 : tie.Need-not-opened-requires-3
 not-opened-requires-3 c κs = search needs
 
--- src/lib.rt:191:9
 same-length-3 : tie.Need-same-length-3
 same-length-3 c = c .before .before .before .before .before .before .write-register3 .kept .0 ∙ c .before .before .before .before .before .before .before .before .before .before .before .before .before .write-register2 .kept .0 ∙ c .before .before .before .before .before .before .before .before .before .before .before .before .before .before .before .before .before .add-note .kept .0 ∙ c .before .before .before .before .before .before .before .before .before .before .before .before .before .before .before .before .before .before .before .before .before .before .before .before .write-register .kept .0
 
--- src/lib.rt:191:9
 returns-3 : tie.Need-returns-3
 unfolding opening
 returns-3 c = rw (c .not-opened3 .ensures)
@@ -98,7 +78,6 @@ returns-3 c = rw (c .not-opened3 .ensures)
     (does-go _ _ (c .before .before .before .before .before .before .before .before .before .before .before .before .before .write-register2 .ensures) (c .before .before .before .before .before .before .before .before .enum-told3 .given .1)
     (does-fail _ (c .before .before .before .before .before .before .write-register3 .ensures) (c .before .enum-told6 .given .1))))) (lit≤ tt) (lit≤ tt))
 
--- src/lib.rt:193:9
 write-register-requires-4 : tie.Need-write-register-requires-4
 write-register-requires-4 c κs = room-after (c .before .before .before .before .before .before .write-register3 .ensures)
     (room-after (c .before .before .before .before .before .before .before .before .before .before .before .before .before .write-register2 .ensures)
@@ -108,19 +87,15 @@ write-register-requires-4 c κs = room-after (c .before .before .before .before 
 enum-told-7 : tie.Need-enum-told-7
 enum-told-7 c = search needs
 
--- src/lib.rt:197:9
 enum-told-8 : tie.Need-enum-told-8
 enum-told-8 c = search needs
 
--- src/lib.rt:197:9
 not-opened-requires-4 : tie.Need-not-opened-requires-4
 not-opened-requires-4 c κs = search needs
 
--- src/lib.rt:197:9
 same-length-4 : tie.Need-same-length-4
 same-length-4 c = c .before .before .before .before .before .before .write-register4 .kept .0 ∙ c .before .before .before .before .before .before .before .before .before .before .before .before .before .write-register3 .kept .0 ∙ c .before .before .before .before .before .before .before .before .before .before .before .before .before .before .before .before .before .before .before .before .write-register2 .kept .0 ∙ c .before .before .before .before .before .before .before .before .before .before .before .before .before .before .before .before .before .before .before .before .before .before .before .before .add-note .kept .0 ∙ c .before .before .before .before .before .before .before .before .before .before .before .before .before .before .before .before .before .before .before .before .before .before .before .before .before .before .before .before .before .before .before .write-register .kept .0
 
--- src/lib.rt:197:9
 returns-4 : tie.Need-returns-4
 unfolding opening
 returns-4 c = rw (c .not-opened4 .ensures)
@@ -130,11 +105,9 @@ returns-4 c = rw (c .not-opened4 .ensures)
     (does-go _ _ (c .before .before .before .before .before .before .before .before .before .before .before .before .before .write-register3 .ensures) (c .before .before .before .before .before .before .before .before .enum-told5 .given .1)
     (does-fail _ (c .before .before .before .before .before .before .write-register4 .ensures) (c .before .enum-told8 .given .1))))))
 
--- src/lib.rt:169:1
 same-length-5 : tie.Need-same-length-5
 same-length-5 c = c .before .before .before .before .before .write-register4 .kept .0 ∙ c .before .before .before .before .before .before .before .before .before .before .before .before .write-register3 .kept .0 ∙ c .before .before .before .before .before .before .before .before .before .before .before .before .before .before .before .before .before .before .before .write-register2 .kept .0 ∙ c .before .before .before .before .before .before .before .before .before .before .before .before .before .before .before .before .before .before .before .before .before .before .before .add-note .kept .0 ∙ c .before .before .before .before .before .before .before .before .before .before .before .before .before .before .before .before .before .before .before .before .before .before .before .before .before .before .before .before .before .before .write-register .kept .0
 
--- src/lib.rt:169:1
 returns-5 : tie.Need-returns-5
 unfolding opening
 returns-5 c = does-go _ _ (c .before .before .before .before .before .before .before .before .before .before .before .before .before .before .before .before .before .before .before .before .before .before .before .before .before .before .before .before .before .before .write-register .ensures) (c .before .before .before .before .before .before .before .before .before .before .before .before .before .before .before .before .before .before .before .before .before .before .before .before .before .enum-told .given .1)

@@ -1,16 +1,12 @@
+-- `ads7924::enable` meets its contract: an `or` with the channel's bit sets it. Assumes nothing.
 use borrow.Author.Needs.{needs}
+use Rattle.ads7924.proofs.Laws.{or-enables}
 use Rattle.ads7924.proofs.enable.Statement.{statement}
 use Rattle.ads7924.proofs.enable.Tie as tie
-use Rattle.ads7924.proofs.enable.Reads as reads
-use Rattle.ads7924.proofs.enable.Lts as lts
-use Rattle.ads7924.proofs.bit_of.Reads as bit-of-reads
-use Rattle.ads7924.proofs.Laws.{or-enables}
 
--- src/lib.rt:341:9
 bit-of-requires : tie.Need-bit-of-requires
 bit-of-requires c κs = search needs
 
--- src/lib.rt:338:1
 returns : tie.Need-returns
 returns c = rw (c .bit-of .ensures) (or-enables (c .before .args .channel) (c .before .args .byte))
 

@@ -1,43 +1,32 @@
-use borrow.Author.Needs.{needs}
-use Rattle.ads7924.proofs.entry.default.Statement.{statement}
-use Rattle.ads7924.proofs.entry.default.Tie as tie
-use Rattle.ads7924.proofs.entry.default.Reads as reads
-use Rattle.ads7924.proofs.entry.default.Lts as lts
-use Rattle.ads7924.proofs.default_at.Reads as default-at-reads
-use Rattle.gate.proofs.gate_of.Reads as gate-of-reads
+-- `ads7924::entry::default` meets its contract: a shut gate changes nothing, and an open one leaves room for the call. Assumes nothing.
 use mathlib.Core.Path.{sym, _∙_}
 use lib.Dec.{lit≤}
+use borrow.Author.Needs.{needs}
 use Rattle.bus.proofs.Runs.{room-less, does-mapped}
 use Rattle.gate.proofs.Laws.{open-room, enters-open, enters-shut}
-use Rattle.ads7924.specs.declared.entry.DefaultAnswer.the-variants.{Ran}
+use Rattle.ads7924.proofs.entry.default.Statement.{statement}
+use Rattle.ads7924.proofs.entry.default.Tie as tie
 
--- src/entry.rt:29:9
 gate-of-requires : tie.Need-gate-of-requires
 gate-of-requires c κs = search needs
 
--- src/entry.rt:31:20
 enum-known-gate : tie.Need-enum-known-gate
 enum-known-gate c = search needs
 
--- src/entry.rt:35:20
 enum-known-gate-2 : tie.Need-enum-known-gate-2
 enum-known-gate-2 c = search needs
 
--- src/entry.rt:36:17
 default-at-requires : tie.Need-default-at-requires
 default-at-requires c κs = room-less (open-room (c .before .before .before .before .before .before .before .args .slot) (c .before .before .before .before .before .before .before .args .used) _ _ _ (sym (c .before .before .before .before .gate-of .ensures) ∙ c .before .before .gate2 .given .1)) (lit≤ tt) (lit≤ tt)
 
--- src/entry.rt:26:1
 returns : tie.Need-returns
 returns c = enters-shut _ _ _ _ _ _ _ (sym (c .before .before .before .gate-of .ensures) ∙ c .before .gate .given .1)
 
--- src/entry.rt:26:1
 same-length : tie.Need-same-length
 same-length c = search needs
 
--- src/entry.rt:26:1
 returns-2 : tie.Need-returns-2
-returns-2 c = enters-open _ _ _ _ _ _ (sym (c .before .before .before .before .before .before .before .before .gate-of .ensures) ∙ c .before .before .before .before .before .before .gate2 .given .1) (does-mapped Ran (c .before .before .before .default-at .ensures))
+returns-2 c = enters-open _ _ _ _ _ _ (sym (c .before .before .before .before .before .before .before .before .gate-of .ensures) ∙ c .before .before .before .before .before .before .gate2 .given .1) (does-mapped _ (c .before .before .before .default-at .ensures))
 
 pub default-spec : {M : Type 1} → statement M
 default-spec =
