@@ -1,2 +1,3 @@
--- That no second answer satisfies the promise of the public entry.
+-- That no second answer satisfies the promise of the public entry, and the chip's reply.
 pub mod Only
+pub mod Frame

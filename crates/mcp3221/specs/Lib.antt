@@ -1,2 +1,3 @@
--- What a measurement does and answers.
+-- What a measurement does and answers, and the chip's reply.
 pub mod Voltage
+pub mod Layout
