@@ -1,0 +1,2 @@
+-- Laws of the clock.
+pub mod Clock
