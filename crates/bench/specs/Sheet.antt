@@ -1,16 +1,16 @@
 -- The starred cases of the bench sheet, one table under one statement: a line for each, its case number first, then what the definitions give; a refusal sends no code. Volts stand as their pattern, beside that of the decimal which the sheet names. antt computes both sides.
 use mathlib.Core.Path.{_≡_, refl}
 use Prim.Native.Nat.{ℕ, _-_}
-use mathlib.Core.Bool.{false}
+use mathlib.Core.Bool.{true, false}
 use mathlib.Core.List.{List, [], _∷_, _++_}
 use lib.ListN.{getD, take, drop}
-use lib.Ieee.{Float, nan, binary32, round, neg, ofBits, toBits, toUnsigned, ofInt, mul, div, sub, le, lt}
-use Rattle.linear_transformation.specs.Line.{line, invertOf}
+use lib.Ieee.{Float, nan, binary32, round, neg, ofBits, toBits, toUnsigned, ofInt, add, mul, div, sub, le, lt}
+use Rattle.linear_transformation.specs.Line.{line, mapOf, invertOf}
 use Rattle.conversions.specs.Constants.{v2-5, v3-3}
 use Rattle.conversions.specs.Codes.{codeOf}
-use Rattle.bus.specs.Rows.{Row, bytes, laid}
+use Rattle.bus.specs.Rows.{Row, bytes, laid, levelOf}
 use Rattle.bus.specs.Replies.{gotAt, dataAt}
-use Rattle.bus.specs.Run.{Run, done, bind, mapped, transfer, onGot}
+use Rattle.bus.specs.Run.{Run, done, bind, mapped, note, transfer, onGot}
 use Rattle.mcp3221.specs.declared.Reading.{Reading}
 use Rattle.mcp3221.specs.declared.Reading.the-variants as M
 use Rattle.mcp3221.specs.Voltage.{getVoltage}
@@ -22,6 +22,28 @@ use Rattle.dac7571.specs.Voltage as B
 use Rattle.ad5627.specs.declared.Dac.the-variants.{A}
 use Rattle.ad5627.specs.declared.Dac.the-variants as D
 use Rattle.ad5627.specs.Voltage.{setVoltage}
+use Rattle.rf_channel.specs.declared.ChannelFault.the-variants.{OverTemperature, UnderTemperature, SupplyAlert}
+use Rattle.rf_channel.specs.declared.ChannelState.the-variants.{Enabled}
+use Rattle.rf_channel.specs.declared.Interlock.the-variants.{Input, Output, Reflected}
+use Rattle.rf_channel.specs.declared.RfChannel.{RfChannel}
+use Rattle.rf_channel.specs.declared.States.the-variants.{Powered}
+use Rattle.rf_channel.specs.Guards.{lateOf}
+use Rattle.rf_channel.specs.Table.{table}
+use Rattle.rf_channel.specs.Plan.{planned}
+use Rattle.rf_machine.specs.Hardware.{enableOutput, hardware}
+use Rattle.rf_machine.specs.Event.{carry, processEvent}
+use Rattle.rf_call.specs.declared.Givens.{Givens}
+use Rattle.rf_call.specs.declared.Outcome.{Outcome}
+use Rattle.rf_call.specs.declared.Outcome.the-variants.{Live, Absent, Halted}
+use Rattle.rf_call.specs.declared.Temperature.the-variants.{Celsius}
+use Rattle.rf_call.specs.Outcome.{causeOf}
+use Rattle.rf_call.specs.Calls.{halting, afterEvent}
+use Rattle.rf_tests.specs.declared.Check.{Check}
+use Rattle.rf_tests.specs.declared.Check.the-variants.{Fine, Found, Failed}
+use Rattle.rf_tests.specs.declared.Overdrive.{Overdrive}
+use Rattle.rf_tests.specs.declared.Overdrive.the-variants.{Quiet, Source}
+use Rattle.rf_tests.specs.Tests.{faultOf, overdriveSource}
+use Rattle.rf_update.specs.Update.{onCheck, faultStage, tripStage, afterStage, finishing, updating}
 
 -- the f32 nearest to n / d, and the f32 just below a positive one
 abbrev pub decimal : ℕ → ℕ → Float
@@ -58,6 +80,47 @@ abbrev pub measuredOne : P1.Reading → List ℕ
 measuredOne (P2.Volts v) = pattern v ∷ []
 measuredOne P2.Bus = []
 
+-- a channel that is powered and is to be enabled, with a threshold on a line of slope 20 and offset -10, and what is given to its update
+abbrev pub powered : Float → RfChannel
+powered threshold =
+    record {
+      settings =
+          record {
+            «output_interlock_threshold» = threshold;
+            «bias_voltage» = neg (decimal 1 1);
+            state = Enabled;
+            «input_power_transform» = line (decimal 1 1) (decimal 0 1);
+            «output_power_transform» = line (decimal 20 1) (neg (decimal 10 1));
+            «reflected_power_transform» = line (decimal 32 1) (neg (decimal 10 1));
+          };
+      state = Powered;
+      «signal_on» = false;
+      «enable_power» = true;
+    }
+
+abbrev pub givens : Givens
+givens = record { tick = 0; alert = true; «output_overdrive» = false; «reflected_overdrive» = false; watchdog = false; temperature = Celsius (decimal 25 1) }
+
+-- answer 14 and its cause, or nothing
+abbrev pub halted : Outcome → List ℕ
+halted (Live c answer) = []
+halted Absent = []
+halted (Halted cause) = 14 ∷ causeOf cause ∷ []
+
+-- the number of a fault, of a failed temperature or of a trip's source, or nothing
+abbrev pub fault : Check → List ℕ
+fault Fine = []
+fault (Found OverTemperature) = 1 ∷ []
+fault (Found UnderTemperature) = 2 ∷ []
+fault (Found SupplyAlert) = 3 ∷ []
+fault Failed = 4 ∷ []
+
+abbrev pub trip : Overdrive → List ℕ
+trip Quiet = []
+trip (Source Input) = 1 ∷ []
+trip (Source Output) = 2 ∷ []
+trip (Source Reflected) = 3 ∷ []
+
 pub sheet : List (List ℕ)
 sheet =
     (1 ∷ sent (setVoltage (decimal 125 100) A))
@@ -73,6 +136,11 @@ sheet =
     ∷ (7 ∷ pattern (decimal 165 100) ∷ measured (getVoltage v3-3 (acknowledged 0xf8 0x00) 0 0 .ans))
     ∷ (8 ∷ pattern (decimal 1717 1000) ∷ measuredOne (P.getVoltage Zero (acknowledged 0x80 0x00 ++ acknowledged 0x80 0x00 ++ acknowledged 0 0 ++ acknowledged 0 0) 0 0 .ans))
     ∷ (9 ∷ sent (setVoltage (invertOf (line (decimal 20 1) (neg (decimal 10 1))) (decimal 15 1)) D.B))
+    ∷ (10 ∷ pattern (mapOf (line (decimal 20 1) (neg (decimal 10 1))) (decimal 1 10)) ∷ halted (updating (powered (neg (decimal 8 1))) givens [] 0 0 .ans))
+    ∷ (11 ∷ fault (faultOf (Celsius (decimal 60 1)) true))
+    ∷ (11 ∷ fault (faultOf (Celsius (decimal 5 1)) true))
+    ∷ (11 ∷ trip (overdriveSource (decimal 20 1) givens))
+    ∷ (12 ∷ levelOf (lateOf 200 200) ∷ levelOf (lateOf 201 200) ∷ [])
     ∷ []
 
 -- what document 01 says
@@ -91,8 +159,13 @@ expected =
     ∷ (7 ∷ 0x3fd3_3333 ∷ 0x3fd3_3333 ∷ [])
     ∷ (8 ∷ 0x3fdb_c6a8 ∷ 0x3fdb_c6a8 ∷ [])
     ∷ (9 ∷ 0x01 ∷ 0x80 ∷ 0x00 ∷ [])
+    ∷ (10 ∷ 0xc100_0000 ∷ 14 ∷ 5 ∷ [])
+    ∷ (11 ∷ [])
+    ∷ (11 ∷ [])
+    ∷ (11 ∷ [])
+    ∷ (12 ∷ 0 ∷ 1 ∷ [])
     ∷ []
 
 pub bench : sheet ≡ expected
-unfolding sheet expected round ofBits toBits neg le lt mul div sub toUnsigned ofInt setVoltage B.setVoltage getVoltage P.getVoltage P.sample mapped done bind transfer onGot gotAt dataAt bytes laid
+unfolding sheet expected round ofBits toBits neg le lt add mul div sub toUnsigned ofInt setVoltage B.setVoltage getVoltage P.getVoltage P.sample mapped done bind note transfer onGot gotAt dataAt bytes laid updating faultStage onCheck tripStage afterStage finishing afterEvent halting processEvent carry planned table hardware enableOutput
 bench = refl

@@ -1,0 +1,2 @@
+-- What each request does.
+pub mod Requests

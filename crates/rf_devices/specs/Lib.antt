@@ -1,0 +1,2 @@
+-- The input power and the two trip levels.
+pub mod Devices

@@ -1,0 +1,3 @@
+-- What an event does to the hardware and to the channel.
+pub mod Hardware
+pub mod Event

@@ -1,0 +1,2 @@
+-- A law of the start's pieces, for the proofs of its functions.
+pub mod Laws

@@ -1,0 +1,2 @@
+-- The start of a channel.
+pub mod Start

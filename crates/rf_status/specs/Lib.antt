@@ -1,0 +1,3 @@
+-- The seven numbers of a status, and the status.
+pub mod Numbers
+pub mod Status

@@ -1,0 +1,2 @@
+-- The tests of an update, and the update.
+pub mod Update
