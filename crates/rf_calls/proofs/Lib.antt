@@ -1,0 +1,2 @@
+-- Laws of requests.
+pub mod Laws
