@@ -1,2 +1,3 @@
--- A law of the start's pieces, for the proofs of its functions.
+-- A law of the start's pieces, and the uniqueness of its promise.
 pub mod Laws
+pub mod Only
