@@ -1,3 +1,2 @@
--- Laws that the proofs of the functions cite, and that no second answer satisfies the promise of a public entry.
+-- Laws that the proofs of the functions cite.
 mod Laws
-pub mod Only

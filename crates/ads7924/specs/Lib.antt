@@ -1,4 +1,3 @@
 -- The chip's registers, and what each call does on the bus and answers.
 pub mod Layout
 pub mod Calls
-pub mod Numbers

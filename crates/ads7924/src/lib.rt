@@ -1,8 +1,5 @@
 // ads7924: a converter of four inputs that raises an alarm when a limit is passed, over the bus. The
-// forms named `_at` are for callers that have made sure of the room; `entry` has the others.
-pub mod entry; // the driver called by itself
-pub mod numbers;
-
+// forms named `_at` are for callers that have made sure of the room; the crate `ads7924_entry` has the others.
 use bus::Cursor;
 use bus::Got;
 use bus::Note;

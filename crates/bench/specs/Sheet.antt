@@ -28,8 +28,8 @@ use Rattle.rf_channel.specs.declared.Interlock.the-variants.{Input, Output, Ref
 use Rattle.rf_channel.specs.declared.RfChannel.{RfChannel}
 use Rattle.rf_channel.specs.declared.States.the-variants.{Powered}
 use Rattle.rf_channel.specs.Guards.{lateOf}
-use Rattle.rf_channel.specs.Table.{table}
-use Rattle.rf_channel.specs.Plan.{planned}
+use Rattle.rf_plan.specs.Table.{table}
+use Rattle.rf_plan.specs.Plan.{planned}
 use Rattle.rf_machine.specs.Hardware.{enableOutput, hardware}
 use Rattle.rf_machine.specs.Event.{carry, processEvent}
 use Rattle.rf_call.specs.declared.Givens.{Givens}

@@ -1,14 +1,14 @@
 use ads7924::Alarm;
 use ads7924::Channel;
-use ads7924::entry::AlarmAnswer;
+use ads7924_entry::AlarmAnswer;
 
 fn alarm(first: u8, fail: usize) {
     let mut log = [0u8; 320];
     let replies = show::replies(first, fail);
-    let told = ads7924::entry::clear_alarm(&mut log, 0, &replies, 3);
+    let told = ads7924_entry::clear_alarm(&mut log, 0, &replies, 3);
     let answer = told.answer;
     show::text(b"ads7924 alarm");
-    show::answer(ads7924::numbers::of_alarm(answer));
+    show::answer(ads7924_entry::numbers::of_alarm(answer));
     if let AlarmAnswer::Ran(alarm) = answer {
         if let Alarm::Mask(mask) = alarm {
             show::number(mask as u64);
@@ -29,12 +29,12 @@ fn limit(channel: Channel, low: u32, high: u32, fail: usize) {
     let replies = show::replies(0x31, fail);
     let lower = pattern::of_pattern(low);
     let upper = pattern::of_pattern(high);
-    let told = ads7924::entry::set_thresholds(&mut log, 0, &replies, 3, channel, lower, upper);
+    let told = ads7924_entry::set_thresholds(&mut log, 0, &replies, 3, channel, lower, upper);
     let answer = told.answer;
     show::text(b"ads7924 limits");
     show::pattern_of(low);
     show::pattern_of(high);
-    show::answer(ads7924::numbers::of_thresholds(answer));
+    show::answer(ads7924_entry::numbers::of_thresholds(answer));
     show::end(&log, 0, told.used);
 }
 

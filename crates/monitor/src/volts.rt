@@ -1,16 +1,16 @@
 use ads7924::Channel;
 use ads7924::Reading;
 use ads7924::Readings;
-use ads7924::entry::VoltageAnswer;
-use ads7924::entry::VoltagesAnswer;
+use ads7924_entry::VoltageAnswer;
+use ads7924_entry::VoltagesAnswer;
 
 fn opening(fail: usize) {
     let mut log = [0u8; 320];
     let replies = show::replies(0, fail);
-    let told = ads7924::entry::default(&mut log, 0, &replies, 3);
+    let told = ads7924_entry::default(&mut log, 0, &replies, 3);
     let answer = told.answer;
     show::text(b"ads7924 opening");
-    show::answer(ads7924::numbers::of_default(answer));
+    show::answer(ads7924_entry::numbers::of_default(answer));
     show::end(&log, 0, told.used);
 }
 
@@ -25,10 +25,10 @@ pub fn openings() {
 fn one(channel: Channel, fail: usize) {
     let mut log = [0u8; 320];
     let replies = show::replies(0x80, fail);
-    let told = ads7924::entry::get_voltage(&mut log, 0, &replies, 3, channel);
+    let told = ads7924_entry::get_voltage(&mut log, 0, &replies, 3, channel);
     let answer = told.answer;
     show::text(b"ads7924 one");
-    show::answer(ads7924::numbers::of_voltage(answer));
+    show::answer(ads7924_entry::numbers::of_voltage(answer));
     if let VoltageAnswer::Ran(reading) = answer {
         if let Reading::Volts(volts) = reading {
             show::float(volts);
@@ -51,10 +51,10 @@ pub fn ones() {
 fn four(fail: usize) {
     let mut log = [0u8; 320];
     let replies = show::replies(0x80, fail);
-    let told = ads7924::entry::get_voltages(&mut log, 0, &replies, 3);
+    let told = ads7924_entry::get_voltages(&mut log, 0, &replies, 3);
     let answer = told.answer;
     show::text(b"ads7924 four");
-    show::answer(ads7924::numbers::of_voltages(answer));
+    show::answer(ads7924_entry::numbers::of_voltages(answer));
     if let VoltagesAnswer::Ran(readings) = answer {
         if let Readings::Volts(volts) = readings {
             show::float(volts.v0);

@@ -1,5 +1,4 @@
 -- Laws of calls: room for a halt, and what follows an event, work on the hardware, or a note, with or without a halt. Assumes nothing.
-use mathlib.Core.Path.{_≡_}
 use mathlib.Core.List.{List}
 use Prim.Native.Nat.{ℕ, _+_, _*_, _≤_, _<_}
 use native.Mathlib.Omega.{arith}

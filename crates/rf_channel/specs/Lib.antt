@@ -1,4 +1,2 @@
--- The channel's clock, its transition table and what an event does.
+-- The channel's clock and its guards.
 pub mod Guards
-pub mod Table
-pub mod Plan

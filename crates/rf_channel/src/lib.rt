@@ -1,9 +1,7 @@
-// An RF channel: its settings, its state and its two output pins, and what each event makes of them.
+// An RF channel: its settings, its state and its two output pins; the clock and the guards.
 use linear_transformation::LinearTransformation;
 ghost use mathlib.Core.Path.{_≡_};
-ghost use Rattle.rf_channel.specs.Guards.{later, lateOf, powerupOf, enableOf};
-ghost use Rattle.rf_channel.specs.Table.{table};
-ghost use Rattle.rf_channel.specs.Plan.{planned};
+ghost use Rattle.rf_channel.specs.Guards.{lateOf, powerupOf, enableOf};
 
 // What the settings ask of a channel.
 pub enum ChannelState {
@@ -80,7 +78,7 @@ pub enum Plan {
 }
 
 // The tick is past the deadline, by less than half of the clock's round.
-fn late(tick: u32, deadline: u32) -> bool
+pub fn late(tick: u32, deadline: u32) -> bool
     ensures { λ r. ⌜ r ≡ lateOf tick deadline ⌝ }
 {
     let past = std::num::wrapping_sub_u32(tick, deadline);
@@ -91,7 +89,7 @@ fn late(tick: u32, deadline: u32) -> bool
 }
 
 // The settings ask for more than Off.
-fn guard_powerup(settings: ChannelSettings) -> bool
+pub fn guard_powerup(settings: ChannelSettings) -> bool
     ensures { λ r. ⌜ r ≡ powerupOf settings ⌝ }
 {
     let wanted = settings.state;
@@ -103,7 +101,7 @@ fn guard_powerup(settings: ChannelSettings) -> bool
 }
 
 // The output may be switched on. A threshold that is a NaN passes.
-fn guard_enable(channel: RfChannel, watchdog: bool) -> bool
+pub fn guard_enable(channel: RfChannel, watchdog: bool) -> bool
     ensures { λ r. ⌜ r ≡ enableOf channel watchdog ⌝ }
 {
     let settings = channel.settings;
@@ -120,192 +118,5 @@ fn guard_enable(channel: RfChannel, watchdog: bool) -> bool
         ChannelState::Off => false,
         ChannelState::Powered => false,
         ChannelState::Enabled => channel.enable_power,
-    }
-}
-
-// What an event does in each state, line for line of the table. Deadlines wrap with the clock.
-
-fn blocked(fault: ChannelFault) -> Plan
-    ensures { λ r. ⌜ r ≡ Plan.Go Action.HandleFault (States.Blocked fault) ⌝ }
-{
-    let action = Action::HandleFault;
-    let next = States::Blocked(fault);
-    Plan::Go(action, next)
-}
-
-fn powerdown(tick: u32) -> Plan
-    ensures { λ r. ⌜ r ≡ Plan.Go Action.StartDisable (States.Powerdown (later tick 500)) ⌝ }
-{
-    let deadline = std::num::wrapping_add_u32(tick, 500);
-    let action = Action::StartDisable;
-    let next = States::Powerdown(deadline);
-    Plan::Go(action, next)
-}
-
-// An action that leads to a state which carries nothing.
-fn go(action: Action, next: States) -> Plan
-    ensures { λ r. ⌜ r ≡ Plan.Go action next ⌝ }
-{
-    Plan::Go(action, next)
-}
-
-fn plan_off(channel: RfChannel, event: Events, tick: u32, watchdog: bool) -> Plan
-    requires { ⌜ channel .state ≡ States.Off ⌝ }
-    ensures { λ r. ⌜ r ≡ planned table channel event tick watchdog ⌝ }
-{
-    match event {
-        Events::InterlockReset => {
-            let settings = channel.settings;
-            if guard_powerup(settings) {
-                let deadline = std::num::wrapping_add_u32(tick, 200);
-                go(Action::StartPowerup, States::Powerup(deadline))
-            } else {
-                Plan::GuardFalse
-            }
-        }
-        Events::Update => Plan::NoTransition,
-        Events::Disable => go(Action::Nothing, States::Off),
-        Events::DisableRf => Plan::NoTransition,
-        Events::Trip(_) => Plan::NoTransition,
-        Events::Fault(fault) => blocked(fault),
-    }
-}
-
-fn plan_powerup(channel: RfChannel, deadline: u32, event: Events, tick: u32, watchdog: bool) -> Plan
-    requires { ⌜ channel .state ≡ States.Powerup deadline ⌝ }
-    ensures { λ r. ⌜ r ≡ planned table channel event tick watchdog ⌝ }
-{
-    match event {
-        Events::InterlockReset => Plan::NoTransition,
-        Events::Update => {
-            if late(tick, deadline) {
-                go(Action::ResetInterlocks, States::Powered)
-            } else {
-                Plan::GuardFalse
-            }
-        },
-        Events::Disable => powerdown(tick),
-        Events::DisableRf => Plan::NoTransition,
-        Events::Trip(_) => Plan::NoTransition,
-        Events::Fault(fault) => blocked(fault),
-    }
-}
-
-fn plan_powered(channel: RfChannel, event: Events, tick: u32, watchdog: bool) -> Plan
-    requires { ⌜ channel .state ≡ States.Powered ⌝ }
-    ensures { λ r. ⌜ r ≡ planned table channel event tick watchdog ⌝ }
-{
-    match event {
-        Events::InterlockReset => Plan::NoTransition,
-        Events::Update => {
-            if guard_enable(channel, watchdog) {
-                go(Action::EnableOutput, States::Enabled)
-            } else {
-                Plan::GuardFalse
-            }
-        },
-        Events::Disable => powerdown(tick),
-        Events::DisableRf => Plan::NoTransition,
-        Events::Trip(_) => Plan::NoTransition,
-        Events::Fault(fault) => blocked(fault),
-    }
-}
-
-fn plan_enabled(channel: RfChannel, event: Events, tick: u32, watchdog: bool) -> Plan
-    requires { ⌜ channel .state ≡ States.Enabled ⌝ }
-    ensures { λ r. ⌜ r ≡ planned table channel event tick watchdog ⌝ }
-{
-    match event {
-        Events::InterlockReset => go(Action::Nothing, States::Enabled),
-        Events::Update => Plan::NoTransition,
-        Events::Disable => powerdown(tick),
-        Events::DisableRf => go(Action::DisableRfSwitch, States::Powered),
-        Events::Trip(source) => {
-            let next = States::Tripped(source);
-            go(Action::HandleTrip, next)
-        },
-        Events::Fault(fault) => blocked(fault),
-    }
-}
-
-fn plan_tripped(
-    channel: RfChannel,
-    source: Interlock,
-    event: Events,
-    tick: u32,
-    watchdog: bool,
-) -> Plan
-    requires { ⌜ channel .state ≡ States.Tripped source ⌝ }
-    ensures { λ r. ⌜ r ≡ planned table channel event tick watchdog ⌝ }
-{
-    match event {
-        Events::InterlockReset => go(Action::Nothing, States::Powered),
-        Events::Update => Plan::NoTransition,
-        Events::Disable => powerdown(tick),
-        Events::DisableRf => go(Action::Nothing, States::Powered),
-        Events::Trip(_) => Plan::NoTransition,
-        Events::Fault(fault) => blocked(fault),
-    }
-}
-
-fn plan_powerdown(
-    channel: RfChannel,
-    deadline: u32,
-    event: Events,
-    tick: u32,
-    watchdog: bool,
-) -> Plan
-    requires { ⌜ channel .state ≡ States.Powerdown deadline ⌝ }
-    ensures { λ r. ⌜ r ≡ planned table channel event tick watchdog ⌝ }
-{
-    match event {
-        Events::InterlockReset => Plan::NoTransition,
-        Events::Update => {
-            if late(tick, deadline) {
-                go(Action::Nothing, States::Off)
-            } else {
-                Plan::GuardFalse
-            }
-        },
-        Events::Disable => Plan::NoTransition,
-        Events::DisableRf => Plan::NoTransition,
-        Events::Trip(_) => Plan::NoTransition,
-        Events::Fault(fault) => blocked(fault),
-    }
-}
-
-fn plan_blocked(
-    channel: RfChannel,
-    first: ChannelFault,
-    event: Events,
-    tick: u32,
-    watchdog: bool,
-) -> Plan
-    requires { ⌜ channel .state ≡ States.Blocked first ⌝ }
-    ensures { λ r. ⌜ r ≡ planned table channel event tick watchdog ⌝ }
-{
-    match event {
-        Events::InterlockReset => Plan::NoTransition,
-        Events::Update => Plan::NoTransition,
-        Events::Disable => Plan::NoTransition,
-        Events::DisableRf => Plan::NoTransition,
-        Events::Trip(_) => Plan::NoTransition,
-        Events::Fault(_) => blocked(first),
-    }
-}
-
-// What an event does, by the table.
-pub fn plan_of(channel: RfChannel, event: Events, tick: u32, watchdog: bool) -> Plan
-    ensures { λ r. ⌜ r ≡ planned table channel event tick watchdog ⌝ }
-{
-    let state = channel.state;
-    match state {
-        States::Blocked(fault) => plan_blocked(channel, fault, event, tick, watchdog),
-        States::Off => plan_off(channel, event, tick, watchdog),
-        States::Powerup(deadline) => plan_powerup(channel, deadline, event, tick, watchdog),
-        States::Powered => plan_powered(channel, event, tick, watchdog),
-        States::Enabled => plan_enabled(channel, event, tick, watchdog),
-        States::Tripped(source) => plan_tripped(channel, source, event, tick, watchdog),
-        States::Powerdown(deadline) => plan_powerdown(channel, deadline, event, tick, watchdog),
     }
 }

@@ -283,7 +283,7 @@ pub fn process_event(
     requires { ⌜ Room at 3 1 (now log) (now replies) ⌝ }
     ensures { λ r. ⌜ Does (processEvent channel event tick watchdog) (now (replies .entry)) (now (log .entry)) at 3 1 (now (log .exit)) (r .next) (r .step) ⌝ }
 {
-    let plan = rf_channel::plan_of(channel, event, tick, watchdog);
+    let plan = rf_plan::plan_of(channel, event, tick, watchdog);
     match plan {
         Plan::NoTransition => stay(channel, Told::NoTransition, at),
         Plan::GuardFalse => stay(channel, Told::GuardFalse, at),

@@ -1,5 +1,4 @@
 -- The start of a channel, in document 01's order. Definitions only.
-use Prim.Native.Nat.{ℕ}
 use mathlib.Core.Bool.{Bool, false, cond}
 use lib.Dec.{eqb}
 use Rattle.conversions.specs.Constants.{v3-3}

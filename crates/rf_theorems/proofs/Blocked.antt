@@ -11,8 +11,8 @@ use Rattle.rf_channel.specs.declared.Plan.the-variants.{NoTransition, GuardFals
 use Rattle.rf_channel.specs.declared.RfChannel.{RfChannel}
 use Rattle.rf_channel.specs.declared.States.{States}
 use Rattle.rf_channel.specs.declared.States.the-variants.{Blocked}
-use Rattle.rf_channel.specs.Table.{table}
-use Rattle.rf_channel.specs.Plan.{planned}
+use Rattle.rf_plan.specs.Table.{table}
+use Rattle.rf_plan.specs.Plan.{planned}
 use Rattle.rf_machine.specs.declared.Effect.{Effect}
 use Rattle.rf_machine.specs.declared.Effect.the-variants.{Did, Stop}
 use Rattle.rf_machine.specs.Hardware.{hardware}

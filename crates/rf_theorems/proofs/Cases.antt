@@ -17,8 +17,8 @@ use Rattle.ads7924.specs.Calls as Ads7924
 use Rattle.rf_channel.specs.declared.ChannelSettings.{ChannelSettings}
 use Rattle.rf_channel.specs.declared.ChannelState.the-variants.{Enabled}
 use Rattle.rf_channel.specs.declared.RfChannel.{RfChannel}
-use Rattle.rf_channel.specs.Table.{table}
-use Rattle.rf_channel.specs.Plan.{planned}
+use Rattle.rf_plan.specs.Table.{table}
+use Rattle.rf_plan.specs.Plan.{planned}
 use Rattle.rf_machine.specs.Hardware.{onDid, pin, pinchOff, startPowerup, hardware}
 use Rattle.rf_machine.specs.Event.{carry, processEvent}
 use Rattle.rf_devices.specs.Devices.{applyOutput, setReflected}

@@ -16,8 +16,8 @@ use Rattle.rf_channel.specs.declared.RfChannel.{RfChannel}
 use Rattle.rf_channel.specs.declared.States.{States}
 use Rattle.rf_channel.specs.declared.States.the-variants as S
 use Rattle.rf_channel.specs.Guards.{later}
-use Rattle.rf_channel.specs.Table.{table}
-use Rattle.rf_channel.specs.Plan.{faultOf, planned}
+use Rattle.rf_plan.specs.Table.{table}
+use Rattle.rf_plan.specs.Plan.{faultOf, planned}
 
 module _ (c : RfChannel) (tick : ℕ) (watchdog : Bool) where
   fault-in : (f : ChannelFault) (s : States) → c .state ≡ s → planned table c (E.Fault f) tick watchdog ≡ Go HandleFault (S.Blocked (faultOf (c .state) (E.Fault f)))

@@ -15,10 +15,10 @@ use Rattle.rf_channel.specs.declared.Plan.{Plan}
 use Rattle.rf_channel.specs.declared.Plan.the-variants.{NoTransition, GuardFalse, Go}
 use Rattle.rf_channel.specs.declared.RfChannel.{RfChannel}
 use Rattle.rf_channel.specs.declared.States.{States}
-use Rattle.rf_channel.specs.Table.{Shape, Line, table, _+_⟦_⟧_⇒_}
-use Rattle.rf_channel.specs.Table as T
+use Rattle.rf_plan.specs.Table.{Shape, Line, table, _+_⟦_⟧_⇒_}
+use Rattle.rf_plan.specs.Table as T
 use Rattle.rf_channel.specs.Guards.{lowest}
-use Rattle.rf_channel.specs.Plan.{shapeOf, nameOf, shapeNumber, nameNumber, holds, arrive, planned}
+use Rattle.rf_plan.specs.Plan.{shapeOf, nameOf, shapeNumber, nameNumber, holds, arrive, planned}
 use Rattle.rf_machine.specs.declared.Cause.{Cause}
 use Rattle.rf_machine.specs.declared.Cause.the-variants.{Level}
 use Rattle.rf_machine.specs.declared.Effect.{Effect}

@@ -8,7 +8,7 @@ use Rattle.rf_channel.specs.declared.Events.the-variants.{Fault}
 use Rattle.rf_channel.specs.declared.RfChannel.{RfChannel}
 use Rattle.rf_channel.specs.declared.States.the-variants.{Blocked}
 use Rattle.rf_channel.specs.declared.Action.the-variants.{HandleFault}
-use Rattle.rf_channel.specs.Plan.{faultOf}
+use Rattle.rf_plan.specs.Plan.{faultOf}
 use Rattle.rf_machine.specs.declared.Effect.{Effect}
 use Rattle.rf_machine.specs.declared.Effect.the-variants.{Did, Stop}
 use Rattle.rf_machine.specs.Hardware.{hardware}

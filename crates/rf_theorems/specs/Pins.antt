@@ -7,9 +7,9 @@ use Rattle.bus.specs.declared.Note.the-variants.{SignalOn, EnablePower, Wait}
 use Rattle.bus.specs.Rows.{Row, noted, moved}
 use Rattle.rf_channel.specs.declared.RfChannel.{RfChannel}
 use Rattle.rf_channel.specs.declared.States.{States}
-use Rattle.rf_channel.specs.Table.{Shape}
-use Rattle.rf_channel.specs.Table as T
-use Rattle.rf_channel.specs.Plan.{shapeOf}
+use Rattle.rf_plan.specs.Table.{Shape}
+use Rattle.rf_plan.specs.Table as T
+use Rattle.rf_plan.specs.Plan.{shapeOf}
 
 -- the levels of both output pins
 pub record Levels : Type 0 where

@@ -1,0 +1,2 @@
+-- No second answer satisfies the promise of a public entry.
+pub mod Only

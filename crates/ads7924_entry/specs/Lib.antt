@@ -1,0 +1,2 @@
+-- The number of each answer of the driver called by itself.
+pub mod Numbers
