@@ -5,7 +5,8 @@ use rf_call::Temperature;
 use rf_channel::ChannelSettings;
 use rf_channel::ChannelState;
 
-// The temperature: H 60 degrees, h 61, C 5, c 4, x failed; 25 otherwise.
+// The temperature: H 60 degrees, h 61, C 5, c 4, x failed, N no number, I and i the infinities; 25
+// otherwise.
 fn temperature(sign: u8) -> Temperature {
     if sign == 72 {
         return Temperature::Celsius(60.0);
@@ -21,6 +22,15 @@ fn temperature(sign: u8) -> Temperature {
     }
     if sign == 120 {
         return Temperature::Failed;
+    }
+    if sign == 78 {
+        return Temperature::Celsius(0.0 / 0.0);
+    }
+    if sign == 73 {
+        return Temperature::Celsius(1.0 / 0.0);
+    }
+    if sign == 105 {
+        return Temperature::Celsius(-1.0 / 0.0);
     }
     Temperature::Celsius(25.0)
 }

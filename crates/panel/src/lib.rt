@@ -1,7 +1,6 @@
-// How a call on a channel is printed.
-use rf_call::Answer;
-use rf_call::Outcome;
+// How a slot and what a call tells are printed.
 use rf_call::Report;
+use rf_call::Slot;
 use rf_channel::ChannelFault;
 use rf_channel::Interlock;
 use rf_channel::RfChannel;
@@ -52,7 +51,8 @@ fn channel(c: RfChannel) {
     flag(b", rf ", c.signal_on);
 }
 
-fn report(r: Report) {
+// What a call that is done has to tell.
+pub fn report(r: Report) {
     match r {
         Report::Plain => (),
         Report::Power(p) => {
@@ -68,20 +68,15 @@ fn report(r: Report) {
     }
 }
 
-pub fn outcome(o: Outcome) {
-    show::answer(rf_call::number(o));
-    match o {
-        Outcome::Live(c, answer) => {
-            channel(c);
-            if let Answer::Done(r) = answer {
-                report(r);
-            }
-        }
-        Outcome::Absent => show::text(b", Empty"),
-        Outcome::Halted(cause) => {
+// What stands in a slot.
+pub fn standing(slot: Slot) {
+    match slot {
+        Slot::Empty => show::text(b", Empty"),
+        Slot::Halted(cause) => {
             show::text(b", Halted, cause");
             show::number(rf_call::cause_number(cause) as u64);
         }
+        Slot::Channel(c) => channel(c),
     }
 }
 

@@ -1,11 +1,11 @@
--- The numbers of document 01, and what stands in the slot after a call. Definitions only.
+-- The numbers of the causes, and what stands in the slot after a call. Definitions only.
 use Prim.Native.Nat.{ℕ}
 use Rattle.rf_machine.specs.declared.Cause.{Cause}
 use Rattle.rf_machine.specs.declared.Cause.the-variants.{Bus, Alarm, Temperature, Threshold, Level, Bias}
 use Rattle.rf_machine.specs.declared.Told.{Told}
 use Rattle.rf_machine.specs.declared.Told.the-variants.{Moved, NoTransition as NotListed, GuardFalse as NotAllowed}
 use Rattle.rf_call.specs.declared.Answer.{Answer}
-use Rattle.rf_call.specs.declared.Answer.the-variants.{Done, NoTransition, GuardFalse, Range, Chip}
+use Rattle.rf_call.specs.declared.Answer.the-variants.{Done, NoTransition, GuardFalse}
 use Rattle.rf_call.specs.declared.Report.the-variants.{Plain}
 use Rattle.rf_call.specs.declared.Outcome.{Outcome}
 use Rattle.rf_call.specs.declared.Outcome.the-variants.{Live, Absent, Halted}
@@ -20,16 +20,6 @@ causeOf Temperature = 3
 causeOf Threshold = 4
 causeOf Level = 5
 causeOf Bias = 6
-
--- answers
-abbrev pub numberOf : Outcome → ℕ
-numberOf (Live c (Done report)) = 0
-numberOf (Live c NoTransition) = 9
-numberOf (Live c GuardFalse) = 10
-numberOf (Live c Range) = 11
-numberOf (Live c Chip) = 12
-numberOf Absent = 13
-numberOf (Halted cause) = 14
 
 -- the slot after a call: a halted one keeps its cause and no channel
 abbrev pub slotOf : Outcome → Slot

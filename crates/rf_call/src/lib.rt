@@ -12,7 +12,7 @@ ghost use mathlib.Core.List.{List};
 ghost use lib.ListN.{length};
 ghost use Prim.Native.Nat.{ℕ, _+_, _*_, _≤_, _<_};
 ghost use Rattle.bus.specs.Run.{Does, Room};
-ghost use Rattle.rf_call.specs.Outcome.{causeOf, numberOf, slotOf, resetAnswer};
+ghost use Rattle.rf_call.specs.Outcome.{causeOf, slotOf, resetAnswer};
 ghost use Rattle.rf_call.specs.Calls.{halting, quietly, interlockReset, handleStartup, standing};
 
 // The temperature in degrees Celsius, or that its chip did not answer.
@@ -93,23 +93,6 @@ pub fn cause_number(cause: Cause) -> u8
         Cause::Threshold => 4,
         Cause::Level => 5,
         Cause::Bias => 6,
-    }
-}
-
-// The number of an answer.
-pub fn number(outcome: Outcome) -> u8
-    ensures { λ r. ⌜ r ≡ numberOf outcome ⌝ }
-{
-    match outcome {
-        Outcome::Live(_, answer) => match answer {
-            Answer::Done(_) => 0,
-            Answer::NoTransition => 9,
-            Answer::GuardFalse => 10,
-            Answer::Range => 11,
-            Answer::Chip => 12,
-        },
-        Outcome::Absent => 13,
-        Outcome::Halted(_) => 14,
     }
 }
 

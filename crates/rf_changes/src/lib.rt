@@ -6,7 +6,7 @@ use rf_channel::Events;
 use rf_channel::RfChannel;
 use rf_channel::States;
 ghost use mathlib.Core.Path.{_≡_};
-ghost use Rattle.rf_changes.specs.Changes.{sameState, sameLine, same, changesOf, stored, eventOf};
+ghost use Rattle.rf_changes.specs.Changes.{stateNumber, sameState, sameLine, same, changesOf, stored, eventOf};
 
 // What has changed: a write is due.
 pub struct Changes {
@@ -21,26 +21,22 @@ pub enum Follow {
     Raise(Events),
 }
 
+fn state_number(state: ChannelState) -> u8
+    ensures { λ r. ⌜ r ≡ stateNumber state ⌝ }
+{
+    match state {
+        ChannelState::Off => 0,
+        ChannelState::Powered => 1,
+        ChannelState::Enabled => 2,
+    }
+}
+
 fn same_state(a: ChannelState, b: ChannelState) -> bool
     ensures { λ r. ⌜ r ≡ sameState a b ⌝ }
 {
-    match a {
-        ChannelState::Off => match b {
-            ChannelState::Off => true,
-            ChannelState::Powered => false,
-            ChannelState::Enabled => false,
-        },
-        ChannelState::Powered => match b {
-            ChannelState::Off => false,
-            ChannelState::Powered => true,
-            ChannelState::Enabled => false,
-        },
-        ChannelState::Enabled => match b {
-            ChannelState::Off => false,
-            ChannelState::Powered => false,
-            ChannelState::Enabled => true,
-        },
-    }
+    let first = state_number(a);
+    let second = state_number(b);
+    first == second
 }
 
 fn same_line(a: LinearTransformation, b: LinearTransformation) -> bool

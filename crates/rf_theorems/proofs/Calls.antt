@@ -1,5 +1,4 @@
--- What every event and every change of settings keeps true of a channel, every call keeps true of it; and a halt leaves both pins low. Assumes nothing.
-use Prim.Native.Nat.{ℕ}
+-- What every event at the tick of a call and every change of settings keep true of a channel, the call keeps true of it; and a halt leaves both pins low. Assumes nothing.
 use mathlib.Core.Path.{_≡_, refl}
 use mathlib.Core.Bool.{Bool, true, false, cond}
 use lib.Ieee.{Float}
@@ -110,7 +109,8 @@ keeps-halting I p cause =
 
 module _
     (I : Levels → RfChannel → Type 0)
-    (events : (p : Levels) (c : RfChannel) (e : Events) (tick : ℕ) (watchdog : Bool) → I p c → Keeps p (processEvent c e tick watchdog) (Walked I))
+    (g : Givens)
+    (events : (p : Levels) (c : RfChannel) (e : Events) → I p c → Keeps p (processEvent c e (g .tick) (g .watchdog)) (Walked I))
     (stores : (p : Levels) (c : RfChannel) (s : ChannelSettings) → I p c → I p (stored c s))
   where
     -- ---- the calls that are one event
@@ -120,13 +120,13 @@ module _
     event-ends k q (Went c told) h = keeps-done _ h
     event-ends k q (Stops cause) h = keeps-halting I q cause
 
-    keeps-answering : (answer : Told → Answer) (e : Events) (p : Levels) (c : RfChannel) (g : Givens) → I p c → Keeps p (answering answer e c g) (Ends I)
+    keeps-answering : (answer : Told → Answer) (e : Events) (p : Levels) (c : RfChannel) → I p c → Keeps p (answering answer e c g) (Ends I)
     unfolding answering
-    keeps-answering answer e p c g h = keeps-bind _ _ (events p c e (g .tick) (g .watchdog) h) (event-ends (λ x told. answer told))
+    keeps-answering answer e p c h = keeps-bind _ _ (events p c e h) (event-ends (λ x told. answer told))
 
-    keeps-quietly : (e : Events) (p : Levels) (c : RfChannel) (g : Givens) → I p c → Keeps p (quietly e c g) (Ends I)
+    keeps-quietly : (e : Events) (p : Levels) (c : RfChannel) → I p c → Keeps p (quietly e c g) (Ends I)
     unfolding quietly
-    keeps-quietly e p c g h = keeps-answering _ e p c g h
+    keeps-quietly e p c h = keeps-answering _ e p c h
 
     -- ---- the update
 
@@ -139,45 +139,45 @@ module _
     staged q (Went c told) h = h
     staged q (Stops cause) h = tt
 
-    keeps-raising : (e : Events) (p : Levels) (c : RfChannel) (g : Givens) → I p c → Keeps p (raising c e g) OnWay
+    keeps-raising : (e : Events) (p : Levels) (c : RfChannel) → I p c → Keeps p (raising c e g) OnWay
     unfolding raising
-    keeps-raising e p c g h = keeps-mapped _ _ (events p c e (g .tick) (g .watchdog) h) staged
+    keeps-raising e p c h = keeps-mapped _ _ (events p c e h) staged
 
-    on-check : (p : Levels) (c : RfChannel) (g : Givens) (x : Check) → I p c → Keeps p (onCheck c g x) OnWay
+    on-check : (p : Levels) (c : RfChannel) (x : Check) → I p c → Keeps p (onCheck c g x) OnWay
     unfolding onCheck OnWay
-    on-check p c g Fine h = keeps-done _ h
-    on-check p c g (Found fault) h = keeps-raising (E.Fault fault) p c g h
-    on-check p c g Failed h = keeps-done _ tt
+    on-check p c Fine h = keeps-done _ h
+    on-check p c (Found fault) h = keeps-raising (E.Fault fault) p c h
+    on-check p c Failed h = keeps-done _ tt
 
-    on-overdrive : (p : Levels) (c : RfChannel) (g : Givens) (x : Overdrive) → I p c → Keeps p (onOverdrive c g x) OnWay
+    on-overdrive : (p : Levels) (c : RfChannel) (x : Overdrive) → I p c → Keeps p (onOverdrive c g x) OnWay
     unfolding onOverdrive OnWay
-    on-overdrive p c g Quiet h = keeps-done _ h
-    on-overdrive p c g (Source interlock) h = keeps-raising (E.Trip interlock) p c g h
+    on-overdrive p c Quiet h = keeps-done _ h
+    on-overdrive p c (Source interlock) h = keeps-raising (E.Trip interlock) p c h
 
-    on-power : (p : Levels) (c : RfChannel) (g : Givens) (x : Power) → I p c → Keeps p (onPower c g x) OnWay
+    on-power : (p : Levels) (c : RfChannel) (x : Power) → I p c → Keeps p (onPower c g x) OnWay
     unfolding onPower OnWay
-    on-power p c g (Dbm power) h = on-overdrive p c g (overdriveSource power g) h
-    on-power p c g Unheard h = keeps-done _ tt
+    on-power p c (Dbm power) h = on-overdrive p c (overdriveSource power g) h
+    on-power p c Unheard h = keeps-done _ tt
 
-    trip-tested : (b : Bool) (p : Levels) (c : RfChannel) (g : Givens) → I p c → Keeps p (cond b (bind (getInputPower (c .settings)) (onPower c g)) (done (Going c))) OnWay
+    trip-tested : (b : Bool) (p : Levels) (c : RfChannel) → I p c → Keeps p (cond b (bind (getInputPower (c .settings)) (onPower c g)) (done (Going c))) OnWay
     unfolding OnWay
-    trip-tested true p c g h = keeps-bind _ _ (still-input (c .settings) p) (λ q x e. rw e (on-power p c g x h))
-    trip-tested false p c g h = keeps-done _ h
+    trip-tested true p c h = keeps-bind _ _ (still-input (c .settings) p) (λ q x e. rw e (on-power p c x h))
+    trip-tested false p c h = keeps-done _ h
 
     on-stage : (k : RfChannel → Run Outcome) → ((q : Levels) (c : RfChannel) → I q c → Keeps q (k c) (Ends I)) → (q : Levels) (x : Stage) → OnWay q x → Keeps q (afterStage k x) (Ends I)
     unfolding afterStage OnWay
     on-stage k f q (Going c) h = f q c h
     on-stage k f q (Stopped cause) h = keeps-halting I q cause
 
-    keeps-finishing : (g : Givens) (p : Levels) (c : RfChannel) → I p c → Keeps p (finishing g c) (Ends I)
+    keeps-finishing : (p : Levels) (c : RfChannel) → I p c → Keeps p (finishing g c) (Ends I)
     unfolding finishing
-    keeps-finishing g p c h = keeps-bind _ _ (events p c E.Update (g .tick) (g .watchdog) h) (event-ends _)
+    keeps-finishing p c h = keeps-bind _ _ (events p c E.Update h) (event-ends _)
 
-    keeps-updating : (p : Levels) (c : RfChannel) (g : Givens) → I p c → Keeps p (updating c g) (Ends I)
+    keeps-updating : (p : Levels) (c : RfChannel) → I p c → Keeps p (updating c g) (Ends I)
     unfolding updating faultStage tripStage
-    keeps-updating p c g h =
-        keeps-bind _ _ (on-check p c g (checkFaults g) h)
-        (on-stage _ (λ q x i. keeps-bind _ _ (trip-tested (isEnabled (x .state)) q x g i) (on-stage _ (keeps-finishing g))))
+    keeps-updating p c h =
+        keeps-bind _ _ (on-check p c (checkFaults g) h)
+        (on-stage _ (λ q x i. keeps-bind _ _ (trip-tested (isEnabled (x .state)) q x i) (on-stage _ keeps-finishing)))
 
     -- ---- settings
 
@@ -195,10 +195,10 @@ module _
     keeps-applying true p c s due h = keeps-done _ h
     keeps-applying false p c s due h = keeps-mapped _ _ (still-changes due s p) (took p (stored c s) (stores p c s h))
 
-    on-follow : (p : Levels) (c : RfChannel) (g : Givens) (x : Follow) → I p c → Keeps p (onFollow c g x) (Ends I)
+    on-follow : (p : Levels) (c : RfChannel) (x : Follow) → I p c → Keeps p (onFollow c g x) (Ends I)
     unfolding onFollow Ends
-    on-follow p c g Nothing h = keeps-done _ h
-    on-follow p c g (Raise e) h = keeps-quietly e p c g h
+    on-follow p c Nothing h = keeps-done _ h
+    on-follow p c (Raise e) h = keeps-quietly e p c h
 
     on-wrong : (p : Levels) (c : RfChannel) (wrong : Wrong) → I p c → Keeps p (refusing c wrong) (Ends I)
     unfolding refusing Ends
@@ -206,33 +206,33 @@ module _
     on-wrong p c Chip h = keeps-done _ h
     on-wrong p c Bus h = keeps-halting I p _
 
-    on-applied : (wanted : ChannelState) (g : Givens) (q : Levels) (x : Applied) → Took q x → Keeps q (onApplied wanted g x) (Ends I)
+    on-applied : (wanted : ChannelState) (q : Levels) (x : Applied) → Took q x → Keeps q (onApplied wanted g x) (Ends I)
     unfolding onApplied following Took
-    on-applied wanted g q (Ok c) h = on-follow q c g (eventOf (c .state) wanted) h
-    on-applied wanted g q (Err c wrong) h = on-wrong q c wrong h
+    on-applied wanted q (Ok c) h = on-follow q c (eventOf (c .state) wanted) h
+    on-applied wanted q (Err c wrong) h = on-wrong q c wrong h
 
-    keeps-settings : (p : Levels) (c : RfChannel) (s : ChannelSettings) (g : Givens) → I p c → Keeps p (handleSettings c s g) (Ends I)
+    keeps-settings : (p : Levels) (c : RfChannel) (s : ChannelSettings) → I p c → Keeps p (handleSettings c s g) (Ends I)
     unfolding handleSettings applySettings
-    keeps-settings p c s g h = keeps-bind _ _ (keeps-applying (same (c .settings) s) p c s (changesOf (c .settings) s) h) (on-applied (s .state) g)
+    keeps-settings p c s h = keeps-bind _ _ (keeps-applying (same (c .settings) s) p c s (changesOf (c .settings) s) h) (on-applied (s .state))
 
     -- ---- the status
 
-    on-measures : (p : Levels) (c : RfChannel) (g : Givens) → I p c → (q : Levels) (x : Measures) → q ≡ p → Keeps q (onMeasures c g x) (Ends I)
+    on-measures : (p : Levels) (c : RfChannel) → I p c → (q : Levels) (x : Measures) → q ≡ p → Keeps q (onMeasures c g x) (Ends I)
     unfolding onMeasures Ends
-    on-measures p c g h q (All n) e = rw e (keeps-done _ h)
-    on-measures p c g h q (NotAll cause) e = keeps-halting I q cause
+    on-measures p c h q (All n) e = rw e (keeps-done _ h)
+    on-measures p c h q (NotAll cause) e = keeps-halting I q cause
 
-    keeps-status : (p : Levels) (c : RfChannel) (d : Detectors) (g : Givens) → I p c → Keeps p (gettingStatus c d g) (Ends I)
+    keeps-status : (p : Levels) (c : RfChannel) (d : Detectors) → I p c → Keeps p (gettingStatus c d g) (Ends I)
     unfolding gettingStatus
-    keeps-status p c d g h = keeps-bind _ _ (still-measuring (c .settings) d (g .temperature) p) (on-measures p c g h)
+    keeps-status p c d h = keeps-bind _ _ (still-measuring (c .settings) d (g .temperature) p) (on-measures p c h)
 
     -- ---- any request
 
-    pub keeps-requested : (p : Levels) (c : RfChannel) (r : Request) (g : Givens) → I p c → Keeps p (requested c r g) (Ends I)
+    pub keeps-requested : (p : Levels) (c : RfChannel) (r : Request) → I p c → Keeps p (requested c r g) (Ends I)
     unfolding requested handleStartup interlockReset standing
-    keeps-requested p c Startup g h = keeps-quietly E.InterlockReset p c g h
-    keeps-requested p c Update g h = keeps-updating p c g h
-    keeps-requested p c Reset g h = keeps-answering _ E.InterlockReset p c g h
-    keeps-requested p c Standby g h = keeps-quietly E.Disable p c g h
-    keeps-requested p c (Settings s) g h = keeps-settings p c s g h
-    keeps-requested p c (Status d) g h = keeps-status p c d g h
+    keeps-requested p c Startup h = keeps-quietly E.InterlockReset p c h
+    keeps-requested p c Update h = keeps-updating p c h
+    keeps-requested p c Reset h = keeps-answering _ E.InterlockReset p c h
+    keeps-requested p c Standby h = keeps-quietly E.Disable p c h
+    keeps-requested p c (Settings s) h = keeps-settings p c s h
+    keeps-requested p c (Status d) h = keeps-status p c d h

@@ -1,12 +1,10 @@
--- Theorems of a channel, over any calls.
+-- Theorems of a channel.
 pub mod Keeps
 pub mod Chips
 pub mod Rule
 pub mod Calls
 pub mod Start
-pub mod History
 pub mod Events
-pub mod Blocked
 pub mod Agree
 pub mod Levels
 pub mod Trips

@@ -223,21 +223,33 @@ unfoldable pub Walked : (Levels → RfChannel → Type 0) → Levels → Step �
 Walked I q (Went c told) = I q c
 Walked I q (Stopped cause) = Unit
 
+-- what a plan leads to satisfies I
+unfoldable pub Leads : (Levels → RfChannel → Type 0) → Levels → RfChannel → Plan → Type 0
+Leads I p c NoTransition = Unit
+Leads I p c GuardFalse = Unit
+Leads I p c (Go action state) = I (acted action p) (moved c action state)
+
+came : (I : Levels → RfChannel → Type 0) (p : Levels) (c : RfChannel) (action : Action) (state : States) → I (acted action p) (moved c action state) → (q : Levels) (e : Effect) → IfDid (At (acted action p)) q e → Walked I q (arrived c action state e)
+unfolding IfDid Walked
+came I p c action state i q Did h = rw h i
+came I p c action state i q (Stop cause) h = tt
+
+pub keeps-carry : (I : Levels → RfChannel → Type 0) (p : Levels) (c : RfChannel) (plan : Plan) → Leads I p c plan → I p c → Keeps p (carry c plan) (Walked I)
+unfolding carry Leads Walked
+keeps-carry I p c NoTransition l i = keeps-done _ i
+keeps-carry I p c GuardFalse l i = keeps-done _ i
+keeps-carry I p c (Go action state) l i = keeps-mapped (arrived c action state) (hardware action (c .settings)) (keeps-hardware action (c .settings) p) (came I p c action state l)
+
 -- the levels that the rows say are those that the channel holds, and these are those of its state
 abbrev pub Stand : Levels → RfChannel → Type 0
 Stand q c = (q ≡ held c) × Right c
 
-came : (c : RfChannel) (action : Action) (state : States) → Right (moved c action state) → (q : Levels) (e : Effect) → IfDid (At (acted action (held c))) q e → Walked Stand q (arrived c action state e)
-unfolding IfDid Walked
-came c action state right q Did h = (h, right)
-came c action state right q (Stop cause) h = tt
-
-stand-carry : (c : RfChannel) (plan : Plan) → Good c plan → Right c → Keeps (held c) (carry c plan) (Walked Stand)
-unfolding carry Good Walked
-stand-carry c NoTransition g right = keeps-done _ (refl, right)
-stand-carry c GuardFalse g right = keeps-done _ (refl, right)
-stand-carry c (Go action state) g right = keeps-mapped (arrived c action state) (hardware action (c .settings)) (keeps-hardware action (c .settings) (held c)) (came c action state g)
+good-leads : (c : RfChannel) (plan : Plan) → Good c plan → Leads Stand (held c) c plan
+unfolding Good Leads
+good-leads c NoTransition g = tt
+good-leads c GuardFalse g = tt
+good-leads c (Go action state) g = (refl, g)
 
 pub stand-event : (p : Levels) (c : RfChannel) (e : Events) (tick : ℕ) (watchdog : Bool) → Stand p c → Keeps p (processEvent c e tick watchdog) (Walked Stand)
 unfolding processEvent
-stand-event p c e tick watchdog h = rw (h .0) (stand-carry c (planned table c e tick watchdog) (plan-good c e tick watchdog (h .1)) (h .1))
+stand-event p c e tick watchdog h = rw (h .0) (keeps-carry Stand (held c) c (planned table c e tick watchdog) (good-leads c _ (plan-good c e tick watchdog (h .1))) (refl, h .1))

@@ -19,14 +19,14 @@ use Rattle.rf_start.specs.Start.{beginning, monitor, preparing, onPresent, modu
 use Rattle.rf_theorems.specs.Pins.{Levels, low}
 use Rattle.rf_theorems.proofs.Keeps.{Keeps, Still, keeps-done, keeps-more, keeps-bind, still-done, still-bind, still-mapped}
 use Rattle.rf_theorems.proofs.Chips.{still-mcp3221, still-ad5627-opening, still-ads7924-opening, still-ads7924, still-ads7924-alarm, still-output, still-reflected, still-cond}
-use Rattle.rf_theorems.proofs.Rule.{IfDid, At, Stand, keeps-then, keeps-pinch, keeps-signal, keeps-power, still-did}
+use Rattle.rf_theorems.proofs.Rule.{IfDid, At, keeps-then, keeps-pinch, keeps-signal, keeps-power, still-did}
 use Rattle.rf_theorems.proofs.Calls.{Ends, keeps-halting}
 
--- a start leaves a channel of which the pin rule holds, or both pins low
-unfoldable pub Starts : Levels → Outcome → Type 0
-Starts q (Live c answer) = Stand q c
-Starts q Absent = q ≡ low
-Starts q (Halted cause) = q ≡ low
+-- a start leaves a channel that is off, or none; both pins are low
+unfoldable pub Starts : ChannelSettings → Levels → Outcome → Type 0
+Starts s q (Live c answer) = (q ≡ low) × (c ≡ fresh s)
+Starts s q Absent = q ≡ low
+Starts s q (Halted cause) = q ≡ low
 
 still-on-did : (k : Run Effect) → Still k → (e : Effect) → Still (onDid k e)
 unfolding onDid
@@ -64,34 +64,34 @@ still-levels : (s : ChannelSettings) → Still (levels s)
 unfolding levels
 still-levels s = still-then _ _ (still-mapped _ _ (still-output s)) (still-mapped _ _ (still-reflected s _))
 
-halts : (p : Levels) (cause : Cause) → Keeps p (halting cause) Starts
+halts : (s : ChannelSettings) (p : Levels) (cause : Cause) → Keeps p (halting cause) (Starts s)
 unfolding Starts Ends
-halts p cause = keeps-more (keeps-halting (λ q c. Stand q c) p cause) turn
+halts s p cause = keeps-more (keeps-halting (λ q c. ⊥) p cause) turn
   where
-    turn : (q : Levels) (x : Outcome) → Ends (λ q c. Stand q c) q x → Starts q x
-    turn q (Live c answer) h = h
+    turn : (q : Levels) (x : Outcome) → Ends (λ q c. ⊥) q x → Starts s q x
+    turn q (Live c answer) h = absurd h
     turn q Absent h = absurd h
     turn q (Halted cause) h = h
 
-settled : (s : ChannelSettings) (q : Levels) (e : Effect) → q ≡ low → Keeps q (orHalt (done (Live (fresh s) (Done Plain))) e) Starts
+settled : (s : ChannelSettings) (q : Levels) (e : Effect) → q ≡ low → Keeps q (orHalt (done (Live (fresh s) (Done Plain))) e) (Starts s)
 unfolding orHalt Starts
 settled s q Did h = keeps-done _ (h, refl)
-settled s q (Stop cause) h = halts q cause
+settled s q (Stop cause) h = halts s q cause
 
-keeps-settling : (s : ChannelSettings) → Keeps low (settling s) Starts
+keeps-settling : (s : ChannelSettings) → Keeps low (settling s) (Starts s)
 unfolding settling
 keeps-settling s = keeps-bind _ _ (still-levels s low) (settled s)
 
-if-present : (s : ChannelSettings) (q : Levels) (x : Presence) → q ≡ low → Keeps q (ifPresent (settling s) x) Starts
+if-present : (s : ChannelSettings) (q : Levels) (x : Presence) → q ≡ low → Keeps q (ifPresent (settling s) x) (Starts s)
 unfolding ifPresent Starts
 if-present s q Present h = rw h (keeps-settling s)
 if-present s q NotThere h = keeps-done _ h
 
-prepared : (s : ChannelSettings) (present : Bool) (q : Levels) (e : Effect) → IfDid (At low) q e → Keeps q (orHalt (bind (moduleThere present) (ifPresent (settling s))) e) Starts
+prepared : (s : ChannelSettings) (present : Bool) (q : Levels) (e : Effect) → IfDid (At low) q e → Keeps q (orHalt (bind (moduleThere present) (ifPresent (settling s))) e) (Starts s)
 unfolding orHalt IfDid
 prepared s present q Did h = rw h (keeps-bind _ _ (still-module present low) (if-present s))
-prepared s present q (Stop cause) h = halts q cause
+prepared s present q (Stop cause) h = halts s q cause
 
-pub keeps-starting : (p : Levels) (s : ChannelSettings) (present : Bool) → Keeps p (starting s present) Starts
+pub keeps-starting : (p : Levels) (s : ChannelSettings) (present : Bool) → Keeps p (starting s present) (Starts s)
 unfolding starting
 keeps-starting p s present = keeps-bind _ _ (keeps-preparing p) (prepared s present)

@@ -1,3 +1,2 @@
--- The levels of the pins that rows say, the pin rule, and the history of a slot.
+-- The levels of the pins that rows say, and the levels of each state.
 pub mod Pins
-pub mod History

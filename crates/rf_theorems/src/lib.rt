@@ -1,1 +1,1 @@
-// Theorems of a channel, over any calls. There is no code here.
+// Theorems of a channel. There is no code here.

@@ -1,0 +1,2 @@
+-- Laws of a line's columns.
+pub mod Laws

@@ -1,0 +1,2 @@
+-- The columns of a line.
+pub mod Columns

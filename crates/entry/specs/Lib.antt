@@ -1,0 +1,2 @@
+-- The tests that a call has to pass, in their order.
+pub mod Tests

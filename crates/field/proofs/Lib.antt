@@ -1,0 +1,2 @@
+-- What the proofs of the numbers share.
+pub mod Laws

@@ -1,0 +1,2 @@
+-- What the numbers of a line's fields are.
+pub mod Field

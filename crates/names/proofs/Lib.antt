@@ -1,0 +1,2 @@
+-- What the proofs of the texts share.
+pub mod Laws

@@ -1,0 +1,2 @@
+-- What the texts of a line's fields are.
+pub mod Names

@@ -1,0 +1,2 @@
+-- The uniqueness of the calls' promises.
+pub mod Only

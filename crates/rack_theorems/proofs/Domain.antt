@@ -1,0 +1,145 @@
+-- On the domain the clock does not wrap: a deadline is never more than 500 ms away from the last tick, and then every line of the table says the same with a plain clock. Assumes nothing.
+use Prim.Native.Nat.{ℕ, _+_ as plus, _^_, _≤_, _<_}
+use native.Mathlib.Omega.{arith}
+use mathlib.Core.Path.{_≡_, refl}
+use mathlib.Core.Bool.{Bool, true, false, cond, _&&_}
+use mathlib.Core.List.{List, [], _∷_}
+use lib.Dec.{leb, ltb, eqb}
+use borrow.Author.Tests.{leb-true, ltb-true, ltb-false, le-leb}
+use Rattle.rf_channel.specs.declared.Events.{Events}
+use Rattle.rf_channel.specs.declared.Plan.{Plan}
+use Rattle.rf_channel.specs.declared.Plan.the-variants.{NoTransition, GuardFalse, Go}
+use Rattle.rf_channel.specs.declared.RfChannel.{RfChannel}
+use Rattle.rf_channel.specs.declared.States.{States}
+use Rattle.rf_channel.specs.Guards.{later, past, lateOf}
+use Rattle.rf_plan.specs.Table.{Shape, Guard, Line, _+_⟦_⟧_⇒_, table}
+use Rattle.rf_plan.specs.Table as T
+use Rattle.rf_plan.specs.Plan.{shapeOf, nameOf, deadlineOf, shapeNumber, nameNumber, holds, arrive, planned}
+use Rattle.rf_machine.specs.Event.{processEvent}
+use Rattle.rf_call.specs.declared.Slot.{Slot}
+use Rattle.rf_call.specs.declared.Slot.the-variants as S
+use Rattle.rf_call.specs.Outcome.{slotOf}
+use Rattle.rf_theorems.specs.Pins.{Levels, low}
+use Rattle.rf_theorems.proofs.Keeps.{Keeps}
+use Rattle.rf_theorems.proofs.Rule.{Walked, Leads, keeps-carry}
+use Rattle.entry.specs.declared.Call.{Call}
+use Rattle.entry.specs.declared.Call.the-variants.{Start, Ask}
+use Rattle.slots.specs.Slots.{emptyRack, slotAt}
+use Rattle.rack_call.specs.Calls.{acts}
+use Rattle.rack_theorems.specs.History.{Asked, Past, next, goesOn, history, Eight}
+use Rattle.rack_theorems.specs.Domain.{tickBy, InDomain, lastTick, passes, leads, spoken, Sane, SpeaksPlainly, PlainClock, LeadsNear, PlainEvents}
+use Rattle.rack_theorems.proofs.Seen.{keeps-start, keeps-ask, eight-kept, seen, first-empty}
+
+-- ---- a near deadline: the table with a plain clock
+
+late-plain : (tick deadline : ℕ) → deadline ≤ plus tick 500 → tick < 2 ^ 31 → lateOf tick deadline ≡ ltb deadline tick
+late-plain tick deadline near below = go (ltb deadline tick) (ltb-true deadline tick) (ltb-false deadline tick)
+  where
+    both : (a b : Bool) → (a ≡ true → 1 ≤ past tick deadline) → (b ≡ true → past tick deadline ≤ 2147483647) → tick ≤ deadline → (a && b) ≡ false
+    both true true p q h = absurd (let a = p refl in let b = q refl in omega (arith, a, b))
+    both true false p q h = refl
+    both false b p q h = refl
+
+    go : (b : Bool) → (b ≡ true → deadline < tick) → (b ≡ false → tick ≤ deadline) → lateOf tick deadline ≡ b
+    go true p q = let h = p refl in rw (le-leb 1 (past tick deadline) (omega (arith, h)), le-leb (past tick deadline) 2147483647 (omega (arith, h)))
+    go false p q = both (leb 1 (past tick deadline)) (leb (past tick deadline) 2147483647) (leb-true 1 (past tick deadline)) (leb-true (past tick deadline) 2147483647) (q refl)
+
+later-plain : (tick wait : ℕ) → tick < 2 ^ 31 → wait ≤ 500 → later tick wait ≡ plus tick wait
+later-plain tick wait below short = omega arith
+
+module _ (c : RfChannel) (e : Events) (tick : ℕ) (watchdog : Bool) (near : deadlineOf (c .state) ≤ plus tick 500) (below : tick < 2 ^ 31) where
+  guard-plain : (guard : Guard) → holds guard c tick watchdog ≡ passes guard c tick watchdog
+  guard-plain T.always = refl
+  guard-plain T.guard-powerup = refl
+  guard-plain T.check-timeout = late-plain tick (deadlineOf (c .state)) near below
+  guard-plain T.guard-enable = refl
+
+  state-plain : (to : Shape) → arrive to (c .state) e tick ≡ leads to (c .state) e tick
+  state-plain T.Off = refl
+  state-plain T.Powerup = rw (later-plain tick 200 below (omega arith))
+  state-plain T.Powered = refl
+  state-plain T.Enabled = refl
+  state-plain T.Tripped = refl
+  state-plain T.Powerdown = rw (later-plain tick 500 below (omega arith))
+  state-plain T.Blocked = refl
+
+  pub lines-plain : (lines : List Line) → planned lines c e tick watchdog ≡ spoken lines c e tick watchdog
+  unfolding planned spoken
+  lines-plain [] = refl
+  lines-plain ((from + on ⟦ guard ⟧ action ⇒ to) ∷ lines) = rw (guard-plain guard, state-plain to, lines-plain lines)
+
+speaks : (last : ℕ) (s : Slot) → Sane last s → SpeaksPlainly last s
+unfolding Sane SpeaksPlainly
+speaks last S.Empty h = tt
+speaks last (S.Halted cause) h = tt
+speaks last (S.Channel c) h = λ e tick watchdog later below. lines-plain c e tick watchdog (omega (arith, h, later)) below table
+
+-- ---- every call leaves a near deadline
+
+near-arrival : (to : Shape) (s : States) (e : Events) (tick : ℕ) → deadlineOf (arrive to s e tick) ≤ plus tick 500
+near-arrival T.Off s e tick = omega arith
+near-arrival T.Powerup s e tick = omega arith
+near-arrival T.Powered s e tick = omega arith
+near-arrival T.Enabled s e tick = omega arith
+near-arrival T.Tripped s e tick = omega arith
+near-arrival T.Powerdown s e tick = omega arith
+near-arrival T.Blocked s e tick = omega arith
+
+module _ (tick : ℕ) where
+  abbrev Near : Levels → RfChannel → Type 0
+  Near q c = deadlineOf (c .state) ≤ plus tick 500
+
+  choose : (p : Levels) (c : RfChannel) (b : Bool) (x y : Plan) → Leads Near p c x → Leads Near p c y → Leads Near p c (cond b x y)
+  choose p c true x y f g = f
+  choose p c false x y f g = g
+
+  -- every line leads to a near deadline, so that the events of a call that come after its first find one as well
+  pub near-plan : (p : Levels) (c : RfChannel) (e : Events) (watchdog : Bool) (lines : List Line) → Leads Near p c (planned lines c e tick watchdog)
+  unfolding planned Leads
+  near-plan p c e watchdog [] = tt
+  near-plan p c e watchdog ((from + on ⟦ guard ⟧ action ⇒ to) ∷ lines) =
+      let go = Go action (arrive to (c .state) e tick) in
+      choose p c (eqb (shapeNumber from) (shapeNumber (shapeOf (c .state))) && eqb (nameNumber on) (nameNumber (nameOf e))) (cond (holds guard c tick watchdog) go GuardFalse) (planned lines c e tick watchdog)
+      (choose p c (holds guard c tick watchdog) go GuardFalse (near-arrival to (c .state) e tick) tt)
+      (near-plan p c e watchdog lines)
+
+  pub near-event : (watchdog : Bool) (p : Levels) (c : RfChannel) (e : Events) → Near p c → Keeps p (processEvent c e tick watchdog) (Walked Near)
+  unfolding processEvent
+  near-event watchdog p c e h = keeps-carry Near p c (planned table c e tick watchdog) (near-plan p c e watchdog table) h
+
+near-leads : (p : Levels) (c : RfChannel) (tick : ℕ) (plan : Plan) → Leads (Near tick) p c plan → LeadsNear tick plan
+unfolding Leads LeadsNear
+near-leads p c tick NoTransition l = tt
+near-leads p c tick GuardFalse l = tt
+near-leads p c tick (Go action state) l = l
+
+pub plain-events : PlainEvents
+plain-events c e tick watchdog near below = (lines-plain c e tick watchdog near below table, near-leads low c tick (planned table c e tick watchdog) (near-plan tick low c e watchdog table))
+
+sane-acts : (last : ℕ) (p : Levels) (s : Slot) (call : Call) → Sane (tickBy call last) s → Keeps p (acts s call) (λ q x. Sane (tickBy call last) (slotOf x))
+unfolding Sane
+sane-acts last p s (Start settings present) h = keeps-start (λ q t. Sane last t) (λ q cause e. tt) settings (λ q. tt) (omega arith) p s present
+sane-acts last p s (Ask r g) h = keeps-ask (λ q t. Sane (g .tick) t) (λ q cause e. tt) g (near-event (g .tick) (g .watchdog)) (λ q c t i. i) p s r h
+
+-- ---- one call after the other
+
+-- what was near is near at every later tick
+sane-later : (last tick : ℕ) (s : Slot) → last ≤ tick → Sane last s → Sane tick s
+unfolding Sane
+sane-later last tick S.Empty l h = tt
+sane-later last tick (S.Halted cause) l h = tt
+sane-later last tick (S.Channel c) l h = omega (arith, l, h)
+
+module _ (n : ℕ) (inside : n < 8) where
+  sane-on : (past : Past) (last : ℕ) (calls : List Asked) → Eight (past .rack) → InDomain past last calls → Sane last (slotAt (past .rack) n) → Sane (lastTick last calls) (slotAt (goesOn past calls .rack) n)
+  unfolding goesOn lastTick InDomain
+  sane-on past last [] eight d h = h
+  sane-on past last (a ∷ more) eight d h =
+      let tick = tickBy (a .call) last in
+      let now = sane-later last tick (slotAt (past .rack) n) (d .1) h in
+      sane-on (next past a) tick more (eight-kept (past .rack) a eight) (d .3)
+      (seen (past .rack) eight n inside (λ q s. Sane tick s) low a now (λ o. sane-acts last low (slotAt (past .rack) n) (a .call) now))
+
+pub plain-clock : PlainClock
+unfolding history goesOn Sane
+plain-clock calls d n inside = speaks (lastTick 0 calls) (slotAt (history calls .rack) n) (sane-on n inside (record { rack = emptyRack; rows = [] }) 0 calls refl d (rw (first-empty n inside) tt))

@@ -1,0 +1,98 @@
+-- The second demand's domain, and what an event means there: the table with a clock that does not wrap. Definitions only.
+use Prim.Native.Nat.{ℕ, _+_ as plus, _^_, _≤_, _<_}
+use mathlib.Core.Path.{_≡_}
+use mathlib.Core.Bool.{Bool, true, cond, _&&_}
+use mathlib.Core.List.{List, [], _∷_}
+use lib.Dec.{eqb, ltb}
+use Rattle.rf_channel.specs.declared.Events.{Events}
+use Rattle.rf_channel.specs.declared.Plan.{Plan}
+use Rattle.rf_channel.specs.declared.Plan.the-variants.{NoTransition, GuardFalse, Go}
+use Rattle.rf_channel.specs.declared.RfChannel.{RfChannel}
+use Rattle.rf_channel.specs.declared.States.{States}
+use Rattle.rf_channel.specs.declared.States.the-variants as St
+use Rattle.rf_channel.specs.Guards.{powerupOf, enableOf}
+use Rattle.rf_plan.specs.Table.{Shape, Guard, Line, _+_⟦_⟧_⇒_, table}
+use Rattle.rf_plan.specs.Table as T
+use Rattle.rf_plan.specs.Plan.{shapeOf, nameOf, deadlineOf, tripOf, faultOf, shapeNumber, nameNumber, planned}
+use Rattle.rf_call.specs.declared.Slot.{Slot}
+use Rattle.rf_call.specs.declared.Slot.the-variants as S
+use Rattle.entry.specs.declared.Call.{Call}
+use Rattle.entry.specs.declared.Call.the-variants.{Start, Ask}
+use Rattle.slots.specs.declared.Verdict.{Verdict}
+use Rattle.slots.specs.declared.Verdict.the-variants.{Refused, Answered, Absent, Halted}
+use Rattle.slots.specs.Slots.{slotAt}
+use Rattle.rack_theorems.specs.History.{Asked, on, Past, next, history}
+
+-- ---- the domain
+
+-- not answered 1 to 8
+unfoldable pub LetIn : Verdict → Type 0
+LetIn (Refused refusal) = ⊥
+LetIn (Answered answer) = Unit
+LetIn Absent = Unit
+LetIn (Halted cause) = Unit
+
+-- the tick by now: a start has none of its own
+abbrev pub tickBy : Call → ℕ → ℕ
+tickBy (Start settings present) last = last
+tickBy (Ask request givens) last = givens .tick
+
+-- no call is answered 1 to 8; ticks never step back and stay below 2 ^ 31
+unfoldable pub InDomain : Past → ℕ → List Asked → Type 0
+InDomain past last [] = Unit
+InDomain past last (a ∷ more) = LetIn (on (past .rack) a .verdict) × (last ≤ tickBy (a .call) last) × (tickBy (a .call) last < 2 ^ 31) × InDomain (next past a) (tickBy (a .call) last) more
+
+-- the last tick of some calls
+unfoldable pub lastTick : ℕ → List Asked → ℕ
+lastTick last [] = last
+lastTick last (a ∷ more) = lastTick (tickBy (a .call) last) more
+
+-- ---- the table with a plain clock: 200 and 500 ms are added, and a deadline is late as soon as the tick is above it
+
+abbrev pub passes : Guard → RfChannel → ℕ → Bool → Bool
+passes T.always c tick watchdog = true
+passes T.guard-powerup c tick watchdog = powerupOf (c .settings)
+passes T.check-timeout c tick watchdog = ltb (deadlineOf (c .state)) tick
+passes T.guard-enable c tick watchdog = enableOf c watchdog
+
+abbrev pub leads : Shape → States → Events → ℕ → States
+leads T.Off s e tick = St.Off
+leads T.Powerup s e tick = St.Powerup (plus tick 200)
+leads T.Powered s e tick = St.Powered
+leads T.Enabled s e tick = St.Enabled
+leads T.Tripped s e tick = St.Tripped (tripOf e)
+leads T.Powerdown s e tick = St.Powerdown (plus tick 500)
+leads T.Blocked s e tick = St.Blocked (faultOf s e)
+
+unfoldable pub spoken : List Line → RfChannel → Events → ℕ → Bool → Plan
+spoken [] c e tick watchdog = NoTransition
+spoken ((from + on ⟦ guard ⟧ action ⇒ to) ∷ lines) c e tick watchdog =
+    cond (eqb (shapeNumber from) (shapeNumber (shapeOf (c .state))) && eqb (nameNumber on) (nameNumber (nameOf e)))
+    (cond (passes guard c tick watchdog) (Go action (leads to (c .state) e tick)) GuardFalse)
+    (spoken lines c e tick watchdog)
+
+-- ---- what is shown on the domain
+
+-- a deadline is at most 500 ms away from the last tick
+unfoldable pub Sane : ℕ → Slot → Type 0
+Sane last S.Empty = Unit
+Sane last (S.Halted cause) = Unit
+Sane last (S.Channel c) = deadlineOf (c .state) ≤ plus last 500
+
+-- after any calls in the domain, for every slot's channel: whatever comes next, at whatever tick of the domain, does what the table says with a plain clock
+unfoldable pub SpeaksPlainly : ℕ → Slot → Type 0
+SpeaksPlainly last S.Empty = Unit
+SpeaksPlainly last (S.Halted cause) = Unit
+SpeaksPlainly last (S.Channel c) = (e : Events) (tick : ℕ) (watchdog : Bool) → last ≤ tick → tick < 2 ^ 31 → planned table c e tick watchdog ≡ spoken table c e tick watchdog
+
+abbrev pub PlainClock : Type 0
+PlainClock = (calls : List Asked) → InDomain (history []) 0 calls → (n : ℕ) → n < 8 → SpeaksPlainly (lastTick 0 calls) (slotAt (history calls .rack) n)
+
+-- within one call: an event that finds a near deadline does what the table says with a plain clock, and leads to a near one, which the next event of the same call finds
+unfoldable pub LeadsNear : ℕ → Plan → Type 0
+LeadsNear tick NoTransition = Unit
+LeadsNear tick GuardFalse = Unit
+LeadsNear tick (Go action state) = deadlineOf state ≤ plus tick 500
+
+abbrev pub PlainEvents : Type 0
+PlainEvents = (c : RfChannel) (e : Events) (tick : ℕ) (watchdog : Bool) → deadlineOf (c .state) ≤ plus tick 500 → tick < 2 ^ 31 → (planned table c e tick watchdog ≡ spoken table c e tick watchdog) × LeadsNear tick (planned table c e tick watchdog)

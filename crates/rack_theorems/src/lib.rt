@@ -1,0 +1,1 @@
+// Theorems of the rack, over any calls. There is no code here.

@@ -1,0 +1,2 @@
+-- A request of a channel that stands by itself.
+pub mod Asked

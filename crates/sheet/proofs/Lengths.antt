@@ -1,0 +1,76 @@
+-- No line is longer than 96 bytes: for numbers of 64 bits an answer's line has 94 at most, a bad one 26. Assumes nothing.
+use Prim.Native.Nat.{ℕ, _^_, _≤_, _<_}
+use mathlib.Core.Bool.{Bool, true, false}
+use mathlib.Core.List.{_++_}
+use native.Mathlib.Omega.{arith}
+use lib.Dec.{lit≤}
+use lib.ListN.{length, length-append}
+use Rattle.text.specs.Texts.{bytesOf, decimalText}
+use Rattle.text.proofs.Decimals.{decimal-length}
+use Rattle.rf_channel.specs.declared.ChannelFault.the-variants.{OverTemperature, UnderTemperature, SupplyAlert}
+use Rattle.rf_channel.specs.declared.Interlock.the-variants.{Input, Output, Reflected}
+use Rattle.rf_channel.specs.declared.States.{States}
+use Rattle.rf_channel.specs.declared.States.the-variants as S
+use Rattle.rf_call.specs.declared.Slot.{Slot}
+use Rattle.rf_call.specs.declared.Slot.the-variants.{Empty, Halted, Channel}
+use Rattle.sheet.specs.Lines.{stateName, stateText, powerOf, rfOf, levelText, standingText, headerText, answerText, badText}
+
+-- ---- the parts
+
+name-length : (s : States) → length (bytesOf (stateName s)) ≤ 25
+name-length (S.Blocked OverTemperature) = lit≤ tt
+name-length (S.Blocked UnderTemperature) = lit≤ tt
+name-length (S.Blocked SupplyAlert) = lit≤ tt
+name-length S.Off = lit≤ tt
+name-length (S.Powerup deadline) = lit≤ tt
+name-length S.Powered = lit≤ tt
+name-length S.Enabled = lit≤ tt
+name-length (S.Tripped Input) = lit≤ tt
+name-length (S.Tripped Output) = lit≤ tt
+name-length (S.Tripped Reflected) = lit≤ tt
+name-length (S.Powerdown deadline) = lit≤ tt
+
+pub state-length : (slot : Slot) → length (stateText slot) ≤ 25
+unfolding stateText
+state-length Empty = lit≤ tt
+state-length (Halted cause) = lit≤ tt
+state-length (Channel c) = name-length (c .state)
+
+level-length : (on : Bool) → length (levelText on) ≤ 1
+unfolding levelText
+level-length true = lit≤ tt
+level-length false = lit≤ tt
+
+pub level-column : (on : Bool) → length (levelText on ++ bytesOf ",") ≤ 2
+level-column on = simp length-append (omega (arith, level-length on))
+
+pub number-column : (n : ℕ) → n < 2 ^ 64 → length (decimalText n ++ bytesOf ",") ≤ 21
+number-column n h = simp length-append (omega (arith, decimal-length n h))
+
+pub standing-length : (slot : Slot) → length (standingText slot) ≤ 30
+unfolding standingText
+standing-length slot = simp length-append (omega (arith, state-length slot, level-length (powerOf slot), level-length (rfOf slot)))
+
+-- ---- the lines
+
+pub header-length : length headerText ≤ 96
+unfolding headerText
+header-length = lit≤ tt
+
+pub answer-length : (line answer : ℕ) (slot : Slot) (used : ℕ) → line < 2 ^ 64 → answer < 2 ^ 64 → used < 2 ^ 64
+    → length (answerText line answer slot used) ≤ 96
+unfolding answerText
+answer-length line answer slot used l a u =
+    simp length-append (omega (
+      arith,
+      decimal-length line l,
+      decimal-length answer a,
+      state-length slot,
+      level-length (powerOf slot),
+      level-length (rfOf slot),
+      decimal-length used u,
+    ))
+
+pub bad-length : (line : ℕ) → line < 2 ^ 64 → length (badText line) ≤ 96
+unfolding badText
+bad-length line l = simp length-append (omega (arith, decimal-length line l))

@@ -1,0 +1,4 @@
+-- Laws of the lines, and some lines worked out.
+pub mod Lengths
+pub mod Parts
+pub mod Examples

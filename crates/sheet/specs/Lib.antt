@@ -1,0 +1,2 @@
+-- The lines that the replay writes.
+pub mod Lines

@@ -1,0 +1,2 @@
+-- The eight slots, and the numbers of the answers.
+pub mod Slots

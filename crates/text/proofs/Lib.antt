@@ -1,0 +1,3 @@
+-- Laws of what is written, and of numbers in decimal.
+pub mod Writing
+pub mod Decimals
