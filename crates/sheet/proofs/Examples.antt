@@ -6,7 +6,8 @@ use Rattle.rf_machine.specs.declared.Cause.the-variants.{Bus}
 use Rattle.rf_channel.specs.declared.ChannelSettings.{ChannelSettings}
 use Rattle.rf_channel.specs.declared.States.the-variants.{Powered}
 use Rattle.rf_call.specs.declared.Slot.the-variants.{Empty, Halted, Channel}
-use Rattle.sheet.specs.Lines.{stateText, levelText, answerText, badText}
+use Rattle.state_name.specs.Names.{stateText}
+use Rattle.sheet.specs.Lines.{levelText, answerText, badText}
 
 of-empty : answerText 7 12 Empty 0 ≡ bytesOf "7,12,Empty,0,0,0\r\n"
 unfolding answerText stateText levelText decimalText placesFrom

@@ -4,7 +4,8 @@ use mathlib.Core.List.{_++_, append-assoc}
 use Prim.Native.Nat.{ℕ}
 use Rattle.text.specs.Texts.{bytesOf, decimalText}
 use Rattle.rf_call.specs.declared.Slot.{Slot}
-use Rattle.sheet.specs.Lines.{stateText, powerOf, rfOf, levelText, standingText, answerText, badText}
+use Rattle.state_name.specs.Names.{stateText}
+use Rattle.sheet.specs.Lines.{powerOf, rfOf, levelText, standingText, answerText, badText}
 
 pub standing-parts : (slot : Slot)
     → stateText slot ++ bytesOf "," ++ (levelText (powerOf slot) ++ bytesOf ",") ++ (levelText (rfOf slot) ++ bytesOf ",") ≡ standingText slot

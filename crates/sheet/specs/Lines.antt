@@ -1,38 +1,11 @@
 -- The lines that the replay writes, as document 01 gives them: columns with a comma between them, and CR LF at the end of each line. Definitions only.
 use Prim.Native.Nat.{ℕ}
-use Prim.Native.String.{String}
 use mathlib.Core.Bool.{Bool, true, false}
 use mathlib.Core.List.{List, [], _∷_, _++_}
 use Rattle.text.specs.Texts.{bytesOf, decimalText}
-use Rattle.rf_channel.specs.declared.ChannelFault.the-variants.{OverTemperature, UnderTemperature, SupplyAlert}
-use Rattle.rf_channel.specs.declared.Interlock.the-variants.{Input, Output, Reflected}
-use Rattle.rf_channel.specs.declared.States.{States}
-use Rattle.rf_channel.specs.declared.States.the-variants as S
+use Rattle.state_name.specs.Names.{stateText}
 use Rattle.rf_call.specs.declared.Slot.{Slot}
 use Rattle.rf_call.specs.declared.Slot.the-variants.{Empty, Halted, Channel}
-
--- ---- the state
-
-abbrev pub stateName : States → String
-stateName (S.Blocked OverTemperature) = "Blocked(OverTemperature)"
-stateName (S.Blocked UnderTemperature) = "Blocked(UnderTemperature)"
-stateName (S.Blocked SupplyAlert) = "Blocked(SupplyAlert)"
-stateName S.Off = "Off"
-stateName (S.Powerup deadline) = "Powerup"
-stateName S.Powered = "Powered"
-stateName S.Enabled = "Enabled"
-stateName (S.Tripped Input) = "Tripped(Input)"
-stateName (S.Tripped Output) = "Tripped(Output)"
-stateName (S.Tripped Reflected) = "Tripped(Reflected)"
-stateName (S.Powerdown deadline) = "Powerdown"
-
-abbrev pub slotName : Slot → String
-slotName Empty = "Empty"
-slotName (Halted cause) = "Halted"
-slotName (Channel c) = stateName (c .state)
-
-unfoldable pub stateText : Slot → List ℕ
-stateText slot = bytesOf (slotName slot)
 
 -- ---- the levels of the two pins, low where there is no channel
 

@@ -1,8 +1,6 @@
 // The lines that the replay writes, put into a buffer that the caller lends.
 use rf_call::Slot;
-use rf_channel::ChannelFault;
-use rf_channel::Interlock;
-use rf_channel::States;
+use state_name::put_slot;
 use text::put_bytes;
 use text::put_decimal;
 ghost use mathlib.Core.Path.{_≡_};
@@ -10,61 +8,9 @@ ghost use mathlib.Core.List.{_++_};
 ghost use Prim.Native.Nat.{_+_, _≤_};
 ghost use lib.ListN.{length};
 ghost use Rattle.text.specs.Texts.{Wrote, bytesOf, decimalText};
-ghost use Rattle.sheet.specs.Lines.{stateName, stateText, powerOf, rfOf, levelText, standingText, headerText, answerText, badText};
-ghost use Rattle.rf_channel.specs.declared.States.the-variants.{Blocked, Tripped};
+ghost use Rattle.sheet.specs.Lines.{powerOf, rfOf, levelText, standingText, headerText, answerText, badText};
 
-// The longest name has 25 bytes.
-fn put_blocked(out: &mut [u8], at: usize, fault: ChannelFault) -> usize
-    requires { ⌜ at + 25 ≤ length (now out) ⌝ }
-    ensures { λ r. ⌜ Wrote (now (out .entry)) at (now (out .exit)) r (bytesOf (stateName (Blocked fault))) ⌝ }
-{
-    match fault {
-        ChannelFault::OverTemperature => put_bytes(out, at, b"Blocked(OverTemperature)"),
-        ChannelFault::UnderTemperature => put_bytes(out, at, b"Blocked(UnderTemperature)"),
-        ChannelFault::SupplyAlert => put_bytes(out, at, b"Blocked(SupplyAlert)"),
-    }
-}
-
-fn put_tripped(out: &mut [u8], at: usize, source: Interlock) -> usize
-    requires { ⌜ at + 25 ≤ length (now out) ⌝ }
-    ensures { λ r. ⌜ Wrote (now (out .entry)) at (now (out .exit)) r (bytesOf (stateName (Tripped source))) ⌝ }
-{
-    match source {
-        Interlock::Input => put_bytes(out, at, b"Tripped(Input)"),
-        Interlock::Output => put_bytes(out, at, b"Tripped(Output)"),
-        Interlock::Reflected => put_bytes(out, at, b"Tripped(Reflected)"),
-    }
-}
-
-fn put_state(out: &mut [u8], at: usize, state: States) -> usize
-    requires { ⌜ at + 25 ≤ length (now out) ⌝ }
-    ensures { λ r. ⌜ Wrote (now (out .entry)) at (now (out .exit)) r (bytesOf (stateName state)) ⌝ }
-{
-    match state {
-        States::Blocked(fault) => put_blocked(out, at, fault),
-        States::Off => put_bytes(out, at, b"Off"),
-        States::Powerup(_) => put_bytes(out, at, b"Powerup"),
-        States::Powered => put_bytes(out, at, b"Powered"),
-        States::Enabled => put_bytes(out, at, b"Enabled"),
-        States::Tripped(source) => put_tripped(out, at, source),
-        States::Powerdown(_) => put_bytes(out, at, b"Powerdown"),
-    }
-}
-
-fn put_slot(out: &mut [u8], at: usize, slot: Slot) -> usize
-    requires { ⌜ at + 25 ≤ length (now out) ⌝ }
-    ensures { λ r. ⌜ Wrote (now (out .entry)) at (now (out .exit)) r (stateText slot) ⌝ }
-{
-    match slot {
-        Slot::Empty => put_bytes(out, at, b"Empty"),
-        Slot::Halted(_) => put_bytes(out, at, b"Halted"),
-        Slot::Channel(channel) => {
-            let state = channel.state;
-            put_state(out, at, state)
-        }
-    }
-}
-
+// The level of the pin enable_power. A slot without a channel drives no pin, and shows 0.
 fn power_of(slot: Slot) -> bool
     ensures { λ r. ⌜ r ≡ powerOf slot ⌝ }
 {
@@ -75,6 +21,7 @@ fn power_of(slot: Slot) -> bool
     }
 }
 
+// The level of the pin signal_on, likewise.
 fn rf_of(slot: Slot) -> bool
     ensures { λ r. ⌜ r ≡ rfOf slot ⌝ }
 {

@@ -13,16 +13,16 @@ use Rattle.sheet.proofs.Parts.{answer-parts}
 -- ---- the room that each text leaves
 
 past-line : (c : tie.After-put-number) → c .put-number .result + 75 ≤ length (c .put-number .last .0)
-past-line c = room-past 21 75 (c .put-number .ensures) (number-column (c .before .before .before .args .line) (search needs)) (c .before .before .before .pre)
+past-line c = room-past 21 75 (c .put-number .ensures) (number-column _ (search needs)) (c .before .before .before .pre)
 
 past-answer : (c : tie.After-put-number2) → c .put-number2 .result + 54 ≤ length (c .put-number2 .last .0)
-past-answer c = room-past 21 54 (c .put-number2 .ensures) (number-column (c .before .before .before .before .before .before .before .args .answer) (search needs)) (past-line (c .before .before .before .before))
+past-answer c = room-past 21 54 (c .put-number2 .ensures) (number-column _ (search needs)) (past-line (c .before .before .before .before))
 
 past-standing : (c : tie.After-put-standing) → c .put-standing .result + 24 ≤ length (c .put-standing .last .0)
-past-standing c = room-past 30 24 (c .put-standing .ensures) (standing-length (c .before .before .before .before .before .before .before .before .before .before .before .args .slot)) (past-answer (c .before .before .before .before))
+past-standing c = room-past 30 24 (c .put-standing .ensures) (standing-length _) (past-answer (c .before .before .before .before))
 
 past-rows : (c : tie.After-put-decimal) → c .put-decimal .result + 4 ≤ length (c .put-decimal .last .0)
-past-rows c = room-past 20 4 (c .put-decimal .ensures) (decimal-length (c .before .before .before .before .before .before .before .before .before .before .before .before .before .before .before .args .used) (search needs)) (past-standing (c .before .before .before .before))
+past-rows c = room-past 20 4 (c .put-decimal .ensures) (decimal-length _ (search needs)) (past-standing (c .before .before .before .before))
 
 -- ---- the calls
 

@@ -14,7 +14,7 @@ slice-aggregate-put-bytes : tie.Need-slice-aggregate-put-bytes
 slice-aggregate-put-bytes c = search needs
 
 put-bytes-requires : tie.Need-put-bytes-requires
-put-bytes-requires c κs = omega (arith, room-past 21 75 (c .before .before .before .before .put-number .ensures) (number-column (c .before .before .before .before .before .before .before .args .line) (search needs)) (c .before .before .before .before .before .before .before .pre))
+put-bytes-requires c κs = omega (arith, room-past 21 75 (c .before .before .before .before .put-number .ensures) (number-column _ (search needs)) (c .before .before .before .before .before .before .before .pre))
 
 same-length : tie.Need-same-length
 same-length c = search needs

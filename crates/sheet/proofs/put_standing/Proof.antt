@@ -7,13 +7,14 @@ use lib.ListN.{length}
 use native.Mathlib.Omega.{arith}
 use lib.Dec.{lit≤}
 use Rattle.text.proofs.Writing.{wrote-then, room-past}
-use Rattle.sheet.proofs.Lengths.{state-length, level-column}
+use Rattle.state_name.proofs.Lengths.{state-length}
+use Rattle.sheet.proofs.Lengths.{level-column}
 use Rattle.sheet.proofs.Parts.{standing-parts}
 
 -- ---- the room that each text leaves
 
 past-state : (c : tie.After-put-slot) → c .put-slot .result + 5 ≤ length (c .put-slot .last .0)
-past-state c = room-past 25 5 (c .put-slot .ensures) (state-length (c .before .before .before .before .before .args .slot)) (c .before .before .before .before .before .pre)
+past-state c = room-past 25 5 (c .put-slot .ensures) (state-length _) (c .before .before .before .before .before .pre)
 
 past-comma : (c : tie.After-put-bytes) → c .put-bytes .result + 4 ≤ length (c .put-bytes .last .0)
 past-comma c = room-past 1 4 (c .put-bytes .ensures) (lit≤ tt) (past-state (c .before .before .before .before .before))
@@ -39,7 +40,7 @@ put-level-requires : tie.Need-put-level-requires
 put-level-requires c κs = omega (arith, past-comma (c .before .before .before))
 
 put-level-requires-2 : tie.Need-put-level-requires-2
-put-level-requires-2 c κs = room-past 2 2 (c .before .before .before .put-level .ensures) (level-column (c .before .before .before .before .before .before .before .before .before .before .before .before .before .before .before .power-of .result)) (past-comma (c .before .before .before .before .before .before .before))
+put-level-requires-2 c κs = room-past 2 2 (c .before .before .before .put-level .ensures) (level-column _) (past-comma (c .before .before .before .before .before .before .before))
 
 same-length : tie.Need-same-length
 same-length c = search needs

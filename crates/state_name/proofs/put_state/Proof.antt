@@ -1,7 +1,7 @@
--- `sheet::put_state` meets its contract: each arm writes the name of its state. Assumes nothing.
+-- `state_name::put_state` meets its contract: each arm writes the name of its state. Assumes nothing.
 use borrow.Author.Needs.{needs}
-use Rattle.sheet.proofs.put_state.Statement.{statement}
-use Rattle.sheet.proofs.put_state.Tie as tie
+use Rattle.state_name.proofs.put_state.Statement.{statement}
+use Rattle.state_name.proofs.put_state.Tie as tie
 
 enum-known-state : tie.Need-enum-known-state
 enum-known-state c = search needs

@@ -1,8 +1,8 @@
--- `sheet::put_slot` meets its contract: each arm writes the name of what stands in the slot. Assumes nothing.
+-- `state_name::put_slot` meets its contract: each arm writes the name of what stands in the slot. Assumes nothing.
 use borrow.Author.Needs.{needs}
-use Rattle.sheet.proofs.put_slot.Statement.{statement}
-use Rattle.sheet.proofs.put_slot.Tie as tie
-use Rattle.sheet.specs.Lines.{stateText}
+use Rattle.state_name.proofs.put_slot.Statement.{statement}
+use Rattle.state_name.proofs.put_slot.Tie as tie
+use Rattle.state_name.specs.Names.{stateText}
 
 enum-told : tie.Need-enum-told
 enum-told c = search needs

@@ -1,7 +1,7 @@
--- `sheet::put_blocked` meets its contract: each arm writes the name of its fault. Assumes nothing.
+-- `state_name::put_tripped` meets its contract: each arm writes the name of its interlock. Assumes nothing.
 use borrow.Author.Needs.{needs}
-use Rattle.sheet.proofs.put_blocked.Statement.{statement}
-use Rattle.sheet.proofs.put_blocked.Tie as tie
+use Rattle.state_name.proofs.put_tripped.Statement.{statement}
+use Rattle.state_name.proofs.put_tripped.Tie as tie
 
 enum-told : tie.Need-enum-told
 enum-told c = search needs
@@ -48,8 +48,8 @@ same-length-3 c = search needs
 returns-3 : tie.Need-returns-3
 returns-3 c = rw (c .before .before .before .before .before .enum-told3 .given .1) (c .before .before .put-bytes3 .ensures)
 
-pub put-blocked-spec : {M : Type 1} → statement M
-put-blocked-spec =
+pub put-tripped-spec : {M : Type 1} → statement M
+put-tripped-spec =
     tie.close
     (tie.spec
     enum-told

@@ -1,0 +1,2 @@
+-- Laws of the one byte `-`.
+pub mod Laws

@@ -1,0 +1,2 @@
+-- The replies of a trace's line.
+pub mod Replies

@@ -1,0 +1,2 @@
+-- Laws of the names.
+pub mod Lengths

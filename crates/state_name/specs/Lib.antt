@@ -1,0 +1,2 @@
+-- The names of the states.
+pub mod Names

@@ -1,0 +1,2 @@
+-- Laws of a line's call.
+pub mod Laws

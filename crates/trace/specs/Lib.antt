@@ -1,0 +1,2 @@
+-- A line of a trace.
+pub mod Trace
