@@ -1,0 +1,2 @@
+-- The bytes of a line that is being read.
+pub mod Hold

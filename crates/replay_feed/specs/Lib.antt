@@ -1,0 +1,2 @@
+-- The replay, byte by byte.
+pub mod Feed

@@ -1,0 +1,2 @@
+-- What one line of a trace does, and what is written for it.
+pub mod Line

@@ -1,0 +1,2 @@
+-- What the replay writes for a whole input.
+pub mod Whole
