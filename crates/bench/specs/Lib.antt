@@ -1,2 +1,3 @@
--- The bench sheet.
+-- The bench sheet, and the decimal constants.
 pub mod Sheet
+pub mod Constants

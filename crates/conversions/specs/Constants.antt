@@ -1,8 +1,5 @@
--- The decimal constants of the conversions: each is the f32 nearest to its decimal (`nearest-f32`). Definitions, and one computed test.
-use mathlib.Core.Path.{_≡_, refl}
-use mathlib.Core.Bool.{false}
-use mathlib.Core.List.{[], _∷_}
-use lib.Ieee.{Float, binary32, ofBits, round}
+-- The decimal constants of the conversions. That each is the f32 nearest to its decimal is shown once for all constants, in the crate bench. Definitions only.
+use lib.Ieee.{Float, binary32, ofBits}
 
 abbrev pub zero : Float
 zero = ofBits binary32 0x0000_0000
@@ -22,7 +19,3 @@ v3-3 = ofBits binary32 0x4053_3333
 -- 3.434 V, the supply of the ads7924
 abbrev pub v3-434 : Float
 v3-434 = ofBits binary32 0x405b_c6a8
-
-pub nearest-f32 : zero ∷ codes ∷ v2-5 ∷ v3-3 ∷ v3-434 ∷ [] ≡ round binary32 false 0 1 ∷ round binary32 false 4096 1 ∷ round binary32 false 25 10 ∷ round binary32 false 33 10 ∷ round binary32 false 3434 1000 ∷ []
-unfolding round ofBits
-nearest-f32 = refl

@@ -2,3 +2,4 @@
 pub mod Level
 pub mod Demand3
 pub mod Order
+pub mod Edges

@@ -13,17 +13,17 @@ use Rattle.steps.proofs.Own.{digits}
 use Rattle.steps.proofs.Round.{grid-mono}
 
 -- m * 2 ^ a as units of 2 ^ b, for a b that is no larger
-in-units : (m a b : ℕ) → b ≤ a → m * 2 ^ a ≡ m * 2 ^ (a - b) * 2 ^ b
+pub in-units : (m a b : ℕ) → b ≤ a → m * 2 ^ a ≡ m * 2 ^ (a - b) * 2 ^ b
 in-units m a b h =
     let e : a - b + b ≡ a = omega arith in
     ap (λ (z : ℕ). m * 2 ^ z) (sym e) ∙ ap (λ (z : ℕ). m * z) (pow-add 2 (a - b) b) ∙ sym (mul-assoc m (2 ^ (a - b)) (2 ^ b))
 
 -- two whole numbers of units differ by a unit at least
-one-more : (m n u : ℕ) → m * u < n * u → m * u + u ≤ n * u
+pub one-more : (m n u : ℕ) → m * u < n * u → m * u + u ≤ n * u
 one-more m n u h = le-trans (le-of-eq (sym (suc-mul m u))) (mul-le-mul-right u (lt-of-mul-lt-mul-right u h))
 
 -- fewer than 2 ^ 24 units
-few : (m u : ℕ) → m < 2 ^ 24 → m * u + u ≤ 2 ^ 24 * u
+pub few : (m u : ℕ) → m < 2 ^ 24 → m * u + u ≤ 2 ^ 24 * u
 few m u h = le-trans (le-of-eq (sym (suc-mul m u))) (mul-le-mul-right u h)
 
 by-digits : (m a n b : ℕ) → m < 2 ^ 24 → n < 2 ^ 24 → m * 2 ^ a < n * 2 ^ b → m * 2 ^ a * 2 ^ 24 ≤ n * 2 ^ b * 16777215

@@ -1,5 +1,5 @@
 -- What rounding does to a fraction a / c, in whole numbers. With n = a * unit, the fraction is n / c steps, and it becomes `grid binary32 a c` steps (`round-at`), unless that is too large for an f32 (`round-over`).
--- No f32 is nearer (`round-nearest`). The half-step law (`half-step`) bounds the change, whether or not the result is subnormal. Where the fraction is a whole number of steps only the relative part is left (`whole-step`).
+-- The half-step law (`half-step`) bounds the change, whether or not the result is subnormal. Where the fraction is a whole number of steps only the relative part is left (`whole-step`).
 -- And a larger fraction never gets fewer steps (`grid-mono`). Assumes nothing.
 use mathlib.Core.Path.{_≡_, refl, sym, ap, _∙_, subst}
 use mathlib.Core.Logic.{_⊎_, inl, inr}
@@ -16,8 +16,7 @@ use lib.Ieee.Fits.{round-is, down-pos}
 use lib.Ieee.Exact.{HasValue, units-val}
 use lib.Ieee.Order.{drop, kept, round-mono, transfer}
 use lib.Ieee.Scale.{grid, overflow}
-use Rattle.steps.specs.Steps.{unit, gap, Nearest, HalfStep, Relative}
-use Rattle.steps.proofs.Own.{digits}
+use Rattle.steps.specs.Steps.{unit, gap, HalfStep, Relative}
 use Rattle.steps.proofs.Closest.{Half, closest-half, closest-least}
 
 -- ---- the value
@@ -40,7 +39,7 @@ round-over s a c h = round-is binary32 s a c ∙ units-over s (kept 24 (a * unit
 
 -- ---- how coarse the rounding is: by single steps, or by 2 ^ k of them where the fraction is 2 ^ (23 + k) steps or more
 
-coarse : (n d k : ℕ) → 0 < d → k ≡ drop 24 n d → (k ≡ 0) ⊎ (2 ^ 23 * (d * 2 ^ k) ≤ n)
+pub coarse : (n d k : ℕ) → 0 < d → k ≡ drop 24 n d → (k ≡ 0) ⊎ (2 ^ 23 * (d * 2 ^ k) ≤ n)
 coarse n d k D e = elim (eq-zero-or-pos k) [
   | inl z ↦ inl z
   | inr p ↦
@@ -50,7 +49,7 @@ coarse n d k D e = elim (eq-zero-or-pos k) [
 ]
 
 -- q units of 2 ^ k steps, over d, are q units of d * 2 ^ k
-regroup : (q k d : ℕ) → q * 2 ^ k * d ≡ q * (d * 2 ^ k)
+pub regroup : (q k d : ℕ) → q * 2 ^ k * d ≡ q * (d * 2 ^ k)
 regroup q k d = simp (mul-assoc, mul-comm)
 
 -- ---- the half-step law
@@ -69,47 +68,6 @@ half-step a c C =
     let n = a * unit in
     let k = drop 24 n c in
     half n c (kept 24 n c) k (coarse n c k C refl) (closest-half n (c * 2 ^ k) (mul-pos C (pow-pos k)))
-
--- ---- no f32 is nearer
-
--- an f32 of m * 2 ^ b steps with b at least k is a whole number of units of 2 ^ k steps
-as-units : (m b k d : ℕ) → k ≤ b → m * 2 ^ b * d ≡ m * 2 ^ (b - k) * (d * 2 ^ k)
-as-units m b k d h =
-    let split : b - k + k ≡ b = omega arith in
-    let two : 2 ^ b ≡ 2 ^ (b - k) * 2 ^ k = ap (λ (z : ℕ). 2 ^ z) (sym split) ∙ pow-add 2 (b - k) k in
-    ap (λ (z : ℕ). m * z * d) two ∙ simp (mul-assoc, mul-comm, mul-left-comm)
-
--- and one with a smaller b lies below 2 ^ 23 of them
-below-units : (m b k d : ℕ) → m < 2 ^ 24 → b < k → m * 2 ^ b * d ≤ 2 ^ 23 * (d * 2 ^ k)
-below-units m b k d h l =
-    let x : m * 2 ^ b ≤ 2 ^ 24 * 2 ^ b = mul-le-mul-right (2 ^ b) (omega arith) in
-    let y : 2 ^ 23 * 2 ^ (1 + b) ≤ 2 ^ 23 * 2 ^ k = mul-le-mul-left (2 ^ 23) (pow-mono (omega arith)) in
-    let z : 2 ^ (1 + b) ≡ 2 * 2 ^ b = pow-add 2 1 b in
-    let t : m * 2 ^ b ≤ 2 ^ 23 * 2 ^ k = omega arith in
-    le-trans (mul-le-mul-right d t) (le-of-eq (mul-assoc (2 ^ 23) (2 ^ k) d ∙ ap (λ (w : ℕ). 2 ^ 23 * w) (mul-comm (2 ^ k) d)))
-
-near : (n d q k m b : ℕ) → m < 2 ^ 24 → (k ≡ 0) ⊎ (2 ^ 23 * (d * 2 ^ k) ≤ n) → ((j : ℕ) → gap (q * (d * 2 ^ k)) n ≤ gap (j * (d * 2 ^ k)) n)
-    → gap (q * (d * 2 ^ k)) n ≤ gap (m * 2 ^ b * d) n
-near n d q k m b h c least = elim (decLe k b) [
-  | yes l ↦ le-trans (least (m * 2 ^ (b - k))) (le-of-eq (ap (λ (z : ℕ). gap z n) (sym (as-units m b k d l))))
-  | no l ↦ far c (omega arith)
-]
-  where
-    far : (k ≡ 0) ⊎ (2 ^ 23 * (d * 2 ^ k) ≤ n) → b < k → gap (q * (d * 2 ^ k)) n ≤ gap (m * 2 ^ b * d) n
-    far (inl z) g = absurd (omega arith)
-    far (inr u) g =
-        let x = least (2 ^ 23) in
-        let y = below-units m b k d h g in
-        omega arith
-
-pub round-nearest : (a c : ℕ) → 0 < c → Nearest (a * unit) c (grid binary32 a c)
-round-nearest a c C y num =
-    let n = a * unit in
-    let k = drop 24 n c in
-    let q = kept 24 n c in
-    let (m, b, small, is) = digits y num in
-    rw (is, regroup q k c)
-    (near n c q k m b small (coarse n c k C refl) (λ (j : ℕ). closest-least n (c * 2 ^ k) j (mul-pos C (pow-pos k))))
 
 -- ---- a whole number of steps
 
@@ -158,7 +116,7 @@ le-steps (fin false m e) (fin false n d) a b c C p q t =
     C
 
 -- an infinity is below no number
-not-under : (y : Float) (b c : ℕ) → HasValue y false b c → T (le (inf false) y) → ⊥
+pub not-under : (y : Float) (b c : ℕ) → HasValue y false b c → T (le (inf false) y) → ⊥
 unfolding le
 not-under nan b c q t = q
 not-under (inf s) b c q t = q

@@ -39,10 +39,6 @@ IsNumber x = T (fits binary32 x) × T (finite x)
 abbrev pub gap : ℕ → ℕ → ℕ
 gap a b = (a - b) + (b - a)
 
--- r steps are as near to the fraction n / d of steps as any f32 is
-abbrev pub Nearest : ℕ → ℕ → ℕ → Type 0
-Nearest n d r = (y : Float) → IsNumber y → gap (r * d) n ≤ gap (magnitude y * d) n
-
 -- r steps differ from n / d steps by at most half a step and one part in 2 ^ 24 of n / d
 pub record HalfStep (n d r : ℕ) : Type 0 where
   pub over : 2 ^ 24 * (r * d) ≤ 2 ^ 24 * n + n + 2 ^ 23 * d

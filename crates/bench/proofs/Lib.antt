@@ -1,0 +1,2 @@
+-- What holds of the constants.
+pub mod Constants
