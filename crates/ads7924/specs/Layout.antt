@@ -1,8 +1,6 @@
--- ads7924: the chip's registers and their fields, and that the bytes made from them are those that document 01 lists (`as-listed`).
--- The layout is the datasheet's as known. The datasheet was not looked up. Definitions, and one computed test.
-use mathlib.Core.Path.{_≡_, refl}
+-- ads7924: the chip's registers and their fields. That the bytes made from them are document 01's is in Listed.
+-- The layout is the datasheet's as known. The datasheet was not looked up. Definitions only.
 use mathlib.Core.Bool.{cond}
-use mathlib.Core.List.{List, [], _∷_, _++_, map}
 use Prim.Native.Nat.{ℕ, _+_, _*_, _/_, _%_}
 use lib.Bits.{bitAnd}
 use lib.Dec.{eqb}
@@ -92,14 +90,3 @@ codeOf upper lower = (256 * upper + lower) / 16
 -- interrupt control: the channels that may raise the alarm, in the lower half, and that have passed a limit, in the upper
 abbrev pub alarmed : ℕ → ℕ
 alarmed byte = bitAnd (byte % 16) (byte / 16)
-
--- ---- the bytes
-
-abbrev pub channels : List Channel
-channels = Zero ∷ One ∷ Two ∷ Three ∷ []
-
--- `16 AA`, `00 80`, `12 20`, `00 EC`, `00 00`; the commands for the channels' words, 0x82 + 2 x channel, and for their limits, 0x8A + 2 x channel
-pub as-listed :
-    reset ∷ resetCode ∷ modeControl ∷ awake ∷ interruptConfig ∷ alarmAfter 1 ∷ modeControl ∷ scanning ∷ modeControl ∷ idle ∷ (map (λ c. from (wordOf c)) channels ++ map (λ c. from (limitsOf c)) channels)
-    ≡ 0x16 ∷ 0xAA ∷ 0x00 ∷ 0x80 ∷ 0x12 ∷ 0x20 ∷ 0x00 ∷ 0xEC ∷ 0x00 ∷ 0x00 ∷ 0x82 ∷ 0x84 ∷ 0x86 ∷ 0x88 ∷ 0x8A ∷ 0x8C ∷ 0x8E ∷ 0x90 ∷ []
-as-listed = refl

@@ -1,3 +1,4 @@
--- What a measurement does and answers, and the chip's reply.
+-- What a measurement does and answers, the chip's reply, and both in document 01's bytes.
 pub mod Voltage
 pub mod Layout
+pub mod Listed

@@ -1,0 +1,1 @@
+// How a driver's list is written. There is no code here.
