@@ -23,10 +23,14 @@ dacByte A = 0
 dacByte B = 1
 dacByte Both = 7
 
--- a refusal writes no row; a code goes to the address 0x0E after the output's byte, as code x 16 with the high byte first, and is answered in volts
+-- a code goes to the address 0x0E after the output's byte, as code x 16 with the high byte first, and is answered in volts
+abbrev pub writeCode : Dac → ℕ → Run Output
+writeCode dac code = try (Write3 0x0E (dacByte dac) (16 * code / 256) (16 * code % 256)) Bus (λ (d : Eight). done (Volts (voltsOf v2-5 code)))
+
+-- what a conversion answered: a refusal writes no row
 abbrev pub sendCode : Dac → Conversion → Run Output
 sendCode dac Refused = done Range
-sendCode dac (Code code) = try (Write3 0x0E (dacByte dac) (16 * code / 256) (16 * code % 256)) Bus (λ (d : Eight). done (Volts (voltsOf v2-5 code)))
+sendCode dac (Code code) = writeCode dac code
 
 unfoldable pub setVoltage : Float → Dac → Run Output
 setVoltage voltage dac = sendCode dac (ad5627Code voltage)

@@ -5,11 +5,12 @@ use bus::Transfer;
 use conversions::Conversion;
 use gate::Bar;
 use gate::Gate;
+ghost use Prim.Native.Nat.{_≤_};
 ghost use mathlib.Core.Path.{_≡_};
 ghost use Rattle.bus.specs.Run.{Does, Room};
 ghost use Rattle.gate.specs.Enter.{Enters};
 ghost use Rattle.ad5627.specs.Opening.{opening, ownOpening, openingNumber};
-ghost use Rattle.ad5627.specs.Voltage.{dacByte, setVoltage, ownVoltage, numberOf};
+ghost use Rattle.ad5627.specs.Voltage.{dacByte, writeCode, setVoltage, ownVoltage, numberOf};
 ghost use Rattle.ad5627.specs.declared.Answer.the-variants.{Refused};
 ghost use Rattle.ad5627.specs.declared.OpeningAnswer.the-variants.{Refused as OpeningRefused};
 
@@ -94,22 +95,12 @@ pub fn default_at(log: &mut [u8], replies: &[u8], at: Cursor) -> Opened
     Opened { opening, next: end }
 }
 
-// Programs an output or both, for callers that have made sure of the room.
-pub fn set_voltage_at(
-    log: &mut [u8],
-    replies: &[u8],
-    at: Cursor,
-    voltage: f32,
-    dac: Dac,
-) -> Programmed
-    requires { ⌜ Room at 1 1 (now log) (now replies) ⌝ }
-    ensures { λ r. ⌜ Does (setVoltage voltage dac) (now (replies .entry)) (now (log .entry)) at 1 1 (now (log .exit)) (r .next) (r .output) ⌝ }
+// Sends a code to an output or both, for callers that have made sure of the room and have a code of
+// twelve bits.
+pub fn set_code_at(log: &mut [u8], replies: &[u8], at: Cursor, code: u16, dac: Dac) -> Programmed
+    requires { ⌜ Room at 1 1 (now log) (now replies) × (code ≤ 4095) ⌝ }
+    ensures { λ r. ⌜ Does (writeCode dac code) (now (replies .entry)) (now (log .entry)) at 1 1 (now (log .exit)) (r .next) (r .output) ⌝ }
 {
-    let conversion = conversions::ad5627_code(voltage);
-    let Conversion::Code(code) = conversion else {
-        let output = Output::Range;
-        return Programmed { output, next: at };
-    };
     let first = dac_byte(dac);
     // The twelve bits of the code stand highest in the sixteen.
     let data = 16 * code;
@@ -131,6 +122,25 @@ pub fn set_voltage_at(
     let volts = conversions::volts_of(2.5, code);
     let output = Output::Volts(volts);
     Programmed { output, next }
+}
+
+// Programs an output or both, for callers that have made sure of the room.
+pub fn set_voltage_at(
+    log: &mut [u8],
+    replies: &[u8],
+    at: Cursor,
+    voltage: f32,
+    dac: Dac,
+) -> Programmed
+    requires { ⌜ Room at 1 1 (now log) (now replies) ⌝ }
+    ensures { λ r. ⌜ Does (setVoltage voltage dac) (now (replies .entry)) (now (log .entry)) at 1 1 (now (log .exit)) (r .next) (r .output) ⌝ }
+{
+    let conversion = conversions::ad5627_code(voltage);
+    let Conversion::Code(code) = conversion else {
+        let output = Output::Range;
+        return Programmed { output, next: at };
+    };
+    set_code_at(log, replies, at, code, dac)
 }
 
 // What the opening answers when it is called by itself.

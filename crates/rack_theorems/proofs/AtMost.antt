@@ -14,7 +14,7 @@ use Rattle.bus.specs.declared.Transfer.{Transfer}
 use Rattle.bus.specs.Run.{Ran, Run, done, bind, mapped, note, transfer, onGot, try}
 use Rattle.conversions.specs.declared.Conversion.{Conversion}
 use Rattle.conversions.specs.declared.Conversion.the-variants.{Code, Range}
-use Rattle.conversions.specs.Codes.{ad5627Code, dac7571Code}
+use Rattle.conversions.specs.Codes.{dac7571Code}
 use Rattle.mcp3221.specs.Voltage as Mcp3221
 use Rattle.dac7571.specs.Voltage as Dac7571
 use Rattle.ad5627.specs.declared.Dac.{Dac}
@@ -86,13 +86,9 @@ pub most-ad5627-opening : AtMost 2 Ad5627Opening.opening
 unfolding Ad5627Opening.opening
 most-ad5627-opening = most-try 1 _ _ _ (λ d. most-try 0 _ _ _ (λ e. most-done 0 _))
 
-ad5627-code : (dac : Dac) (x : Conversion) → AtMost 1 (Ad5627.sendCode dac x)
-ad5627-code dac (Code code) = most-try 0 _ _ _ (λ d. most-done 0 _)
-ad5627-code dac Range = most-done 1 _
-
-pub most-ad5627 : (v : Float) (dac : Dac) → AtMost 1 (Ad5627.setVoltage v dac)
-unfolding Ad5627.setVoltage
-most-ad5627 v dac = ad5627-code dac (ad5627Code v)
+pub most-ad5627 : (dac : Dac) (x : Conversion) → AtMost 1 (Ad5627.sendCode dac x)
+most-ad5627 dac (Code code) = most-try 0 _ _ _ (λ d. most-done 0 _)
+most-ad5627 dac Range = most-done 1 _
 
 pub most-ads7924-opening : AtMost 5 Ads7924.opening
 unfolding Ads7924.opening

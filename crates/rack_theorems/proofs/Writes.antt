@@ -8,7 +8,7 @@ use Rattle.bus.specs.Rows.{Row, noted, moved}
 use Rattle.bus.specs.Run.{Run, done, mapped}
 use Rattle.conversions.specs.declared.Conversion.{Conversion}
 use Rattle.conversions.specs.declared.Conversion.the-variants.{Code, Range as Refused}
-use Rattle.conversions.specs.Codes.{ad5627Code, dac7571Code}
+use Rattle.conversions.specs.Codes.{dac7571Code}
 use Rattle.dac7571.specs.Voltage as Dac7571
 use Rattle.ad5627.specs.declared.Dac.{Dac}
 use Rattle.ad5627.specs.Voltage as Ad5627
@@ -58,10 +58,6 @@ module _ (n : ℕ) where
   bias-sent Refused = gives-done _ (record { moves = tt; chip = tt })
   bias-sent (Code code) = gives-try (λ rows o. Wrote n rows (biasApplied o)) _ _ _ (record { moves = tt; chip = tt }) (λ d. gives-done _ (record { moves = tt; chip = tt }))
 
-  level-set : (v : Float) (dac : Dac) → Gives n (Ad5627.setVoltage v dac) (λ rows o. Wrote n rows (levelApplied o))
-  unfolding Ad5627.setVoltage
-  level-set v dac = level-sent dac (ad5627Code v)
-
   bias-set : (v : Float) → Gives n (Dac7571.setVoltage v) (λ rows o. Wrote n rows (biasApplied o))
   unfolding Dac7571.setVoltage
   bias-set v = bias-sent (dac7571Code v)
@@ -80,5 +76,5 @@ module _ (n : ℕ) where
   pub wrote-changes : (due : Changes) (s : ChannelSettings) → Gives n (writeChanges due s) (Wrote n)
   unfolding writeChanges writeOutput writeReflected writeBias applyOutput setReflected applyBias
   wrote-changes due s =
-      gives-bind _ _ (wrote-due (due .output) _ _ (level-set _ _))
-      (on-fine _ (gives-bind _ _ (wrote-due (due .reflected) _ _ (level-set _ _)) (on-fine _ (wrote-due (due .bias) _ _ (bias-set _)))))
+      gives-bind _ _ (wrote-due (due .output) _ _ (level-sent _ _))
+      (on-fine _ (gives-bind _ _ (wrote-due (due .reflected) _ _ (level-sent _ _)) (on-fine _ (wrote-due (due .bias) _ _ (bias-set _)))))

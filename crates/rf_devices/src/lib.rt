@@ -1,11 +1,16 @@
 // The chips of one channel, as its calls use them: the input power, and the two trip levels.
 use ad5627::Dac;
+use ad5627::Output;
 use ad5627::Programmed;
 use bus::Cursor;
+use conversions::Conversion;
+use linear_transformation::LinearTransformation;
 use mcp3221::Reading;
 use rf_channel::ChannelSettings;
 ghost use mathlib.Core.Path.{_≡_};
 ghost use Rattle.bus.specs.Run.{Does, Room};
+ghost use Rattle.interlock.specs.Level.{levelCode};
+ghost use Rattle.ad5627.specs.Voltage.{sendCode};
 ghost use Rattle.rf_devices.specs.Devices.{getInputPower, applyOutput, setReflected};
 
 // The level of the reflected power's interlock, in dBm. It protects the hardware and is no setting.
@@ -45,6 +50,26 @@ pub fn get_input_power(
     Sensed { power, next }
 }
 
+// Sends a trip level to an output of the interlock chip. The chip compares a detector's volts with it.
+fn send_level(
+    log: &mut [u8],
+    replies: &[u8],
+    at: Cursor,
+    transform: LinearTransformation,
+    level: f32,
+    dac: Dac,
+) -> Programmed
+    requires { ⌜ Room at 1 1 (now log) (now replies) ⌝ }
+    ensures { λ r. ⌜ Does (sendCode dac (levelCode transform level)) (now (replies .entry)) (now (log .entry)) at 1 1 (now (log .exit)) (r .next) (r .output) ⌝ }
+{
+    let conversion = interlock::level_code(transform, level);
+    let Conversion::Code(code) = conversion else {
+        let output = Output::Range;
+        return Programmed { output, next: at };
+    };
+    ad5627::set_code_at(log, replies, at, code, dac)
+}
+
 // Sends the output power's trip level to the interlock chip.
 pub fn apply_output_interlock_threshold(
     log: &mut [u8],
@@ -56,9 +81,9 @@ pub fn apply_output_interlock_threshold(
     ensures { λ r. ⌜ Does (applyOutput settings) (now (replies .entry)) (now (log .entry)) at 1 1 (now (log .exit)) (r .next) (r .output) ⌝ }
 {
     let transform = settings.output_power_transform;
-    let voltage = transform.invert(settings.output_interlock_threshold);
+    let level = settings.output_interlock_threshold;
     let dac = Dac::B;
-    ad5627::set_voltage_at(log, replies, at, voltage, dac)
+    send_level(log, replies, at, transform, level, dac)
 }
 
 // Sends a trip level of the reflected power to the interlock chip.
@@ -73,7 +98,6 @@ pub fn set_reflected_interlock_threshold(
     ensures { λ r. ⌜ Does (setReflected settings power) (now (replies .entry)) (now (log .entry)) at 1 1 (now (log .exit)) (r .next) (r .output) ⌝ }
 {
     let transform = settings.reflected_power_transform;
-    let voltage = transform.invert(power);
     let dac = Dac::A;
-    ad5627::set_voltage_at(log, replies, at, voltage, dac)
+    send_level(log, replies, at, transform, power, dac)
 }

@@ -22,6 +22,11 @@ does-here e f = rw f (does-end e)
 pub does-turned : {A B : Type 0} {m : Run A} {rs l : List ℕ} {c : Cursor} {n t : ℕ} {l′ : List ℕ} {c′ : Cursor} {a : A} {b : B} (f : A → B) → Does m rs l c n t l′ c′ a → b ≡ f a → Does (mapped f m) rs l c n t l′ c′ b
 does-turned f d e = rw e (does-mapped f d)
 
+-- the same, with the cursor told by an equation too
+pub does-told : {A B : Type 0} {m : Run A} {rs l : List ℕ} {c : Cursor} {n t : ℕ} {l′ : List ℕ} {c′ c″ : Cursor} {a : A} {b : B}
+    → (f : A → B) → Does m rs l c n t l′ c′ a → b ≡ f a → c″ ≡ c′ → Does (mapped f m) rs l c n t l′ c″ b
+does-told f d e g = rw g (does-turned f d e)
+
 -- ---- one piece after another
 
 module _ {m : Run Effect} {rs l : List ℕ} {c : Cursor} {n t : ℕ} {l′ : List ℕ} {c′ : Cursor} {e : Effect} where

@@ -153,8 +153,8 @@ fn enable_output(log: &mut [u8], replies: &[u8], at: Cursor, settings: ChannelSe
         let biased = apply_bias(log, replies, at, settings);
         let output = biased.output;
         let next = biased.next;
-        let effect = effect_of(output);
-        let Effect::Did = effect else {
+        let Output::Volts(_) = output else {
+            let effect = effect_of(output);
             return Acted { effect, next };
         };
         let high = Note::SignalOn(true);

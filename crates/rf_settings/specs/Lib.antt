@@ -1,2 +1,3 @@
--- What has changed in new settings, and the call that takes them.
+-- What has changed in new settings, the call that takes them, and why it ends as it does.
 pub mod Settings
+pub mod Reasons

@@ -80,7 +80,8 @@ fn bias_written(output: dac7571::Output) -> Written
     }
 }
 
-fn unchanged(at: Cursor) -> Wrote
+// A write that was done, or that was not due.
+fn fine(at: Cursor) -> Wrote
     ensures { λ r. ⌜ (r .written ≡ Written.Fine) × (r .next ≡ at) ⌝ }
 {
     let written = Written::Fine;
@@ -101,10 +102,13 @@ fn write_output(
         let programmed = rf_devices::apply_output_interlock_threshold(log, replies, at, settings);
         let output = programmed.output;
         let next = programmed.next;
-        let written = level_written(output);
-        Wrote { written, next }
+        let ad5627::Output::Volts(_) = output else {
+            let written = level_written(output);
+            return Wrote { written, next };
+        };
+        fine(next)
     } else {
-        unchanged(at)
+        fine(at)
     }
 }
 
@@ -129,10 +133,13 @@ fn write_reflected(
         );
         let output = programmed.output;
         let next = programmed.next;
-        let written = level_written(output);
-        Wrote { written, next }
+        let ad5627::Output::Volts(_) = output else {
+            let written = level_written(output);
+            return Wrote { written, next };
+        };
+        fine(next)
     } else {
-        unchanged(at)
+        fine(at)
     }
 }
 
@@ -150,10 +157,13 @@ fn write_bias(
         let programmed = rf_machine::apply_bias(log, replies, at, settings);
         let output = programmed.output;
         let next = programmed.next;
-        let written = bias_written(output);
-        Wrote { written, next }
+        let dac7571::Output::Volts(_) = output else {
+            let written = bias_written(output);
+            return Wrote { written, next };
+        };
+        fine(next)
     } else {
-        unchanged(at)
+        fine(at)
     }
 }
 

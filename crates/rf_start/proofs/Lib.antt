@@ -1,3 +1,2 @@
--- A law of the start's pieces, and the uniqueness of its promise.
-pub mod Laws
+-- The uniqueness of the start's promise.
 pub mod Only

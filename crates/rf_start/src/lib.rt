@@ -158,8 +158,8 @@ fn set_levels(log: &mut [u8], replies: &[u8], at: Cursor, settings: ChannelSetti
     let programmed = rf_devices::apply_output_interlock_threshold(log, replies, at, settings);
     let output = programmed.output;
     let next = programmed.next;
-    let effect = level_effect(output);
-    let Effect::Did = effect else {
+    let ad5627::Output::Volts(_) = output else {
+        let effect = level_effect(output);
         return acted(effect, next);
     };
     let power = rf_devices::MAXIMUM_REFLECTED_POWER_DBM;
@@ -172,7 +172,11 @@ fn set_levels(log: &mut [u8], replies: &[u8], at: Cursor, settings: ChannelSetti
     );
     let output = programmed.output;
     let next = programmed.next;
-    let effect = level_effect(output);
+    let ad5627::Output::Volts(_) = output else {
+        let effect = level_effect(output);
+        return acted(effect, next);
+    };
+    let effect = Effect::Did;
     acted(effect, next)
 }
 

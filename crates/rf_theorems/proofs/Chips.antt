@@ -5,7 +5,7 @@ use mathlib.Core.Bool.{Bool, true, false, cond}
 use Rattle.bus.specs.Run.{Run}
 use Rattle.conversions.specs.declared.Conversion.{Conversion}
 use Rattle.conversions.specs.declared.Conversion.the-variants.{Code, Range}
-use Rattle.conversions.specs.Codes.{ad5627Code, dac7571Code}
+use Rattle.conversions.specs.Codes.{dac7571Code}
 use Rattle.mcp3221.specs.Voltage as Mcp3221
 use Rattle.dac7571.specs.Voltage as Dac7571
 use Rattle.ad5627.specs.declared.Dac.{Dac}
@@ -34,13 +34,9 @@ pub still-ad5627-opening : Still Ad5627Opening.opening
 unfolding Ad5627Opening.opening
 still-ad5627-opening = still-try _ _ _ (λ d. still-try _ _ _ (λ e. still-done _))
 
-ad5627-code : (dac : Dac) (x : Conversion) → Still (Ad5627.sendCode dac x)
-ad5627-code dac (Code code) = still-try _ _ _ (λ d. still-done _)
-ad5627-code dac Range = still-done _
-
-pub still-ad5627 : (v : Float) (dac : Dac) → Still (Ad5627.setVoltage v dac)
-unfolding Ad5627.setVoltage
-still-ad5627 v dac = ad5627-code dac (ad5627Code v)
+pub still-ad5627 : (dac : Dac) (x : Conversion) → Still (Ad5627.sendCode dac x)
+still-ad5627 dac (Code code) = still-try _ _ _ (λ d. still-done _)
+still-ad5627 dac Range = still-done _
 
 pub still-ads7924-opening : Still Ads7924.opening
 unfolding Ads7924.opening

@@ -1,22 +1,18 @@
--- `rf_devices::apply_output_interlock_threshold` meets its contract: the volts of the level go to output B. Assumes nothing.
+-- `rf_devices::apply_output_interlock_threshold` meets its contract: the code of the level goes to output B. Assumes nothing.
 use borrow.Author.Needs.{needs}
 use Rattle.rf_devices.specs.Devices.{applyOutput}
 use Rattle.rf_devices.proofs.apply_output_interlock_threshold.Statement.{statement}
 use Rattle.rf_devices.proofs.apply_output_interlock_threshold.Tie as tie
 
-invert-requires : tie.Need-invert-requires
-invert-requires c κs = search needs
-
-set-voltage-at-requires : tie.Need-set-voltage-at-requires
-set-voltage-at-requires c κs = search needs
+send-level-requires : tie.Need-send-level-requires
+send-level-requires c κs = search needs
 
 same-length : tie.Need-same-length
 same-length c = search needs
 
 returns : tie.Need-returns
 unfolding applyOutput
-returns c = rw (← c .before .before .before .before .invert .ensures) (c .before .before .set-voltage-at .ensures)
+returns c = c .before .before .send-level .ensures
 
 pub apply-output-interlock-threshold-spec : {M : Type 1} → statement M
-apply-output-interlock-threshold-spec =
-    tie.close (tie.spec invert-requires set-voltage-at-requires same-length returns)
+apply-output-interlock-threshold-spec = tie.close (tie.spec send-level-requires same-length returns)

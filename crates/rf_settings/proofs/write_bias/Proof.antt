@@ -1,8 +1,9 @@
 -- `rf_settings::write_bias` meets its contract: a bias that has changed is the chip's run, and one that has not is no row. Assumes nothing.
+use mathlib.Core.Path.{sym, ap, _∙_}
 use lib.Dec.{lit≤}
 use borrow.Author.Needs.{needs}
 use Rattle.bus.proofs.Runs.{does-more}
-use Rattle.rf_machine.proofs.Laws.{does-here, does-turned}
+use Rattle.rf_machine.proofs.Laws.{does-here, does-turned, does-told}
 use Rattle.rf_settings.specs.Settings.{biasApplied, writeBias}
 use Rattle.rf_settings.proofs.write_bias.Statement.{statement}
 use Rattle.rf_settings.proofs.write_bias.Tie as tie
@@ -10,30 +11,47 @@ use Rattle.rf_settings.proofs.write_bias.Tie as tie
 apply-bias-requires : tie.Need-apply-bias-requires
 apply-bias-requires c κs = search needs
 
+enum-told : tie.Need-enum-told
+enum-told c = search needs
+
 bias-written-requires : tie.Need-bias-written-requires
 bias-written-requires c κs = search needs
-
-unchanged-requires : tie.Need-unchanged-requires
-unchanged-requires c κs = search needs
 
 same-length : tie.Need-same-length
 same-length c = search needs
 
 returns : tie.Need-returns
 unfolding writeBias
-returns c = rw (c .before .before .before .before .before .before .if1 .taken) (does-turned biasApplied (c .before .before .before .before .apply-bias .ensures) (c .bias-written .ensures))
+returns c = rw (c .before .before .before .before .before .before .before .if1 .taken) (does-turned biasApplied (c .before .before .before .before .before .apply-bias .ensures) (c .bias-written .ensures))
+
+fine-requires : tie.Need-fine-requires
+fine-requires c κs = search needs
+
+fine-requires-2 : tie.Need-fine-requires-2
+fine-requires-2 c κs = search needs
+
+same-length-2 : tie.Need-same-length-2
+same-length-2 c = search needs
 
 returns-2 : tie.Need-returns-2
 unfolding writeBias
-returns-2 c = rw (c .before .if1 .left) (does-more (does-here (c .unchanged .ensures .0) (c .unchanged .ensures .1)) (lit≤ tt) (lit≤ tt))
+returns-2 c = rw (c .before .before .before .before .before .before .before .before .if1 .taken) (does-told biasApplied (c .before .before .before .before .before .before .apply-bias .ensures) (c .fine .ensures .0 ∙ sym (ap biasApplied (c .before .enum-told .given .1))) (c .fine .ensures .1))
+
+returns-3 : tie.Need-returns-3
+unfolding writeBias
+returns-3 c = rw (c .before .if1 .left) (does-more (does-here (c .fine2 .ensures .0) (c .fine2 .ensures .1)) (lit≤ tt) (lit≤ tt))
 
 pub write-bias-spec : {M : Type 1} → statement M
 write-bias-spec =
     tie.close
     (tie.spec
     apply-bias-requires
+    enum-told
     bias-written-requires
-    unchanged-requires
     same-length
     returns
-    returns-2)
+    fine-requires
+    fine-requires-2
+    same-length-2
+    returns-2
+    returns-3)

@@ -3,9 +3,8 @@ use mathlib.Core.Path.{sym, ap, _∙_}
 use lib.Dec.{lit≤}
 use borrow.Author.Needs.{needs}
 use Rattle.bus.proofs.Runs.{does-mapped, does-more, room-after, room-less}
-use Rattle.rf_machine.proofs.Laws.{does-stop, does-did}
+use Rattle.rf_machine.proofs.Laws.{does-stop, does-did, does-told}
 use Rattle.rf_start.specs.Start.{ready, heard, quiet, monitor}
-use Rattle.rf_start.proofs.Laws.{does-told}
 use Rattle.rf_start.proofs.check_monitor.Statement.{statement}
 use Rattle.rf_start.proofs.check_monitor.Tie as tie
 

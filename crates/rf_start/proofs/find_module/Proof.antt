@@ -3,9 +3,8 @@ use mathlib.Core.Path.{sym, ap, _∙_}
 use lib.Dec.{lit≤}
 use borrow.Author.Needs.{needs}
 use Rattle.bus.proofs.Runs.{does-then, does-mapped, does-more, room-after, room-less}
-use Rattle.rf_machine.proofs.Laws.{does-here}
+use Rattle.rf_machine.proofs.Laws.{does-here, does-told}
 use Rattle.rf_start.specs.Start.{onPresent, opened, there, moduleThere}
-use Rattle.rf_start.proofs.Laws.{does-told}
 use Rattle.rf_start.proofs.find_module.Statement.{statement}
 use Rattle.rf_start.proofs.find_module.Tie as tie
 
