@@ -1,3 +1,4 @@
--- The transition table, and what an event does.
+-- The transition table, what an event does, and that no line needs what is not there.
 pub mod Table
 pub mod Plan
+pub mod Whole

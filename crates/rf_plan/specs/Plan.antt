@@ -2,11 +2,11 @@
 use Prim.Native.Nat.{ℕ}
 use mathlib.Core.Bool.{Bool, true, cond, _&&_}
 use mathlib.Core.List.{List, [], _∷_}
+use mathlib.Core.Option.{Option, none, some}
 use lib.Dec.{eqb}
 use Rattle.rf_channel.specs.declared.ChannelFault.{ChannelFault}
 use Rattle.rf_channel.specs.declared.Interlock.{Interlock}
-use Rattle.rf_channel.specs.declared.ChannelFault.the-variants.{OverTemperature}
-use Rattle.rf_channel.specs.declared.Interlock.the-variants.{Input}
+use Rattle.rf_channel.specs.declared.Action.{Action}
 use Rattle.rf_channel.specs.declared.RfChannel.{RfChannel}
 use Rattle.rf_channel.specs.declared.States.{States}
 use Rattle.rf_channel.specs.declared.States.the-variants as S
@@ -37,41 +37,47 @@ nameOf E.DisableRf = T.DisableRf
 nameOf (E.Trip i) = T.Trip
 nameOf (E.Fault f) = T.Fault
 
+-- what is made of a thing, where there is one
+abbrev pub given : {A B : Type 0} → (A → B) → Option A → Option B
+given f none = none
+given f (some a) = some (f a)
+
 -- the deadline of a state that has one
-abbrev pub deadlineOf : States → ℕ
-deadlineOf (S.Blocked f) = 0
-deadlineOf S.Off = 0
-deadlineOf (S.Powerup d) = d
-deadlineOf S.Powered = 0
-deadlineOf S.Enabled = 0
-deadlineOf (S.Tripped i) = 0
-deadlineOf (S.Powerdown d) = d
+abbrev pub deadlineOf : States → Option ℕ
+deadlineOf (S.Blocked f) = none
+deadlineOf S.Off = none
+deadlineOf (S.Powerup d) = some d
+deadlineOf S.Powered = none
+deadlineOf S.Enabled = none
+deadlineOf (S.Tripped i) = none
+deadlineOf (S.Powerdown d) = some d
 
--- the source of a trip, and of a fault: Blocked keeps its first one
-abbrev pub tripOf : Events → Interlock
-tripOf E.InterlockReset = Input
-tripOf E.Update = Input
-tripOf E.Disable = Input
-tripOf E.DisableRf = Input
-tripOf (E.Trip i) = i
-tripOf (E.Fault f) = Input
+-- the source of an event that is a trip, and the fault of one that is a fault
+abbrev pub tripOf : Events → Option Interlock
+tripOf E.InterlockReset = none
+tripOf E.Update = none
+tripOf E.Disable = none
+tripOf E.DisableRf = none
+tripOf (E.Trip i) = some i
+tripOf (E.Fault f) = none
 
-abbrev pub newFault : Events → ChannelFault
-newFault E.InterlockReset = OverTemperature
-newFault E.Update = OverTemperature
-newFault E.Disable = OverTemperature
-newFault E.DisableRf = OverTemperature
-newFault (E.Trip i) = OverTemperature
-newFault (E.Fault f) = f
+abbrev pub newFault : Events → Option ChannelFault
+newFault E.InterlockReset = none
+newFault E.Update = none
+newFault E.Disable = none
+newFault E.DisableRf = none
+newFault (E.Trip i) = none
+newFault (E.Fault f) = some f
 
-abbrev pub faultOf : States → Events → ChannelFault
-faultOf (S.Blocked f) e = f
-faultOf S.Off e = newFault e
-faultOf (S.Powerup d) e = newFault e
-faultOf S.Powered e = newFault e
-faultOf S.Enabled e = newFault e
-faultOf (S.Tripped i) e = newFault e
-faultOf (S.Powerdown d) e = newFault e
+-- the fault that a channel is blocked for when another comes: Blocked keeps its first one
+abbrev pub faultOf : States → ChannelFault → ChannelFault
+faultOf (S.Blocked first) f = first
+faultOf S.Off f = f
+faultOf (S.Powerup d) f = f
+faultOf S.Powered f = f
+faultOf S.Enabled f = f
+faultOf (S.Tripped i) f = f
+faultOf (S.Powerdown d) f = f
 
 -- ---- the table's meaning
 
@@ -93,26 +99,35 @@ nameNumber T.DisableRf = 3
 nameNumber T.Trip = 4
 nameNumber T.Fault = 5
 
-abbrev pub holds : Guard → RfChannel → ℕ → Bool → Bool
-holds T.always c tick watchdog = true
-holds T.guard-powerup c tick watchdog = powerupOf (c .settings)
-holds T.check-timeout c tick watchdog = lateOf tick (deadlineOf (c .state))
-holds T.guard-enable c tick watchdog = enableOf c watchdog
+-- whether the guard holds; a timeout needs a state that has a deadline
+abbrev pub holds : Guard → RfChannel → ℕ → Bool → Option Bool
+holds T.always c tick watchdog = some true
+holds T.guard-powerup c tick watchdog = some (powerupOf (c .settings))
+holds T.check-timeout c tick watchdog = given (λ (d : ℕ). lateOf tick d) (deadlineOf (c .state))
+holds T.guard-enable c tick watchdog = some (enableOf c watchdog)
 
--- the next state with what it carries: a power-up takes 200 ms, a power-down 500 ms
-abbrev pub arrive : Shape → States → Events → ℕ → States
-arrive T.Off s e tick = S.Off
-arrive T.Powerup s e tick = S.Powerup (later tick 200)
-arrive T.Powered s e tick = S.Powered
-arrive T.Enabled s e tick = S.Enabled
-arrive T.Tripped s e tick = S.Tripped (tripOf e)
-arrive T.Powerdown s e tick = S.Powerdown (later tick 500)
-arrive T.Blocked s e tick = S.Blocked (faultOf s e)
+-- the next state with what it carries: a power-up takes 200 ms, a power-down 500 ms; Tripped needs a trip, and Blocked a fault
+abbrev pub arrive : Shape → States → Events → ℕ → Option States
+arrive T.Off s e tick = some S.Off
+arrive T.Powerup s e tick = some (S.Powerup (later tick 200))
+arrive T.Powered s e tick = some S.Powered
+arrive T.Enabled s e tick = some S.Enabled
+arrive T.Tripped s e tick = given (λ (i : Interlock). S.Tripped i) (tripOf e)
+arrive T.Powerdown s e tick = some (S.Powerdown (later tick 500))
+arrive T.Blocked s e tick = given (λ (f : ChannelFault). S.Blocked (faultOf s f)) (newFault e)
+
+-- what a line does. One that needs what there is not does nothing, and the table has no such line (Whole)
+abbrev pub meant : Action → Option Bool → Option States → Plan
+meant action none next = NoTransition
+meant action (some b) none = NoTransition
+meant action (some b) (some next) = cond b (Go action next) GuardFalse
+
+-- a line is for the state and the event
+abbrev pub for : Shape → Name → States → Events → Bool
+for from on s e = eqb (shapeNumber from) (shapeNumber (shapeOf s)) && eqb (nameNumber on) (nameNumber (nameOf e))
 
 -- the first line for the state and the event decides; where there is none, nothing happens
 unfoldable pub planned : List Line → RfChannel → Events → ℕ → Bool → Plan
 planned [] c e tick watchdog = NoTransition
 planned ((from + on ⟦ guard ⟧ action ⇒ to) ∷ lines) c e tick watchdog =
-    cond (eqb (shapeNumber from) (shapeNumber (shapeOf (c .state))) && eqb (nameNumber on) (nameNumber (nameOf e)))
-    (cond (holds guard c tick watchdog) (Go action (arrive to (c .state) e tick)) GuardFalse)
-    (planned lines c e tick watchdog)
+    cond (for from on (c .state) e) (meant action (holds guard c tick watchdog) (arrive to (c .state) e tick)) (planned lines c e tick watchdog)

@@ -1,16 +1,12 @@
 -- The seven numbers of a status and their places in the caller's slice. Definitions only.
-use Prim.Native.Nat.{ℕ}
 use mathlib.Core.List.{List, _∷_}
 use lib.ListN.{drop}
-use lib.IntN.{pos}
-use lib.Ieee.{Float, binary32, ofBits, mul, div, ofInt}
-use Rattle.linear_transformation.specs.declared.LinearTransformation.{LinearTransformation}
-use Rattle.linear_transformation.specs.Line.{mapOf}
+use lib.Ieee.{Float, binary32, ofBits, mul, div}
 use Rattle.rf_status.specs.declared.Measures.{Measures}
 use Rattle.rf_status.specs.declared.Measures.the-variants.{All, Stopped}
 use Rattle.rf_status.specs.declared.Numbers.{Numbers}
 
--- ---- currents, the 5 V rail, the detectors' powers; every operation rounds
+-- ---- currents, the 5 V rail; every operation rounds
 
 -- volts x (100.0 / 0.100 / sensor)
 abbrev pub currentOf : Float → Float → Float
@@ -26,10 +22,6 @@ p5vCurrent volts = currentOf (ofBits binary32 0x45c1_c000) volts
 -- volts x 2.5
 abbrev pub p5vVoltage : Float → Float
 p5vVoltage volts = mul binary32 volts (ofBits binary32 0x4020_0000)
-
--- millivolts / 1000.0, mapped
-abbrev pub detected : LinearTransformation → ℕ → Float
-detected t millivolts = mapOf t (div binary32 (ofInt binary32 (pos millivolts)) (ofBits binary32 0x447a_0000))
 
 -- ---- the slice
 

@@ -8,6 +8,7 @@ use Rattle.ads7924.specs.declared.Readings.the-variants.{Volts, Bus as Unread}
 use Rattle.ads7924.specs.Calls.{getVoltages}
 use Rattle.rf_channel.specs.declared.ChannelSettings.{ChannelSettings}
 use Rattle.rf_channel.specs.declared.RfChannel.{RfChannel}
+use Rattle.rf_methods.specs.Methods.{detected}
 use Rattle.rf_machine.specs.declared.Cause.the-variants as Causes
 use Rattle.rf_devices.specs.declared.Power.{Power}
 use Rattle.rf_devices.specs.declared.Power.the-variants.{Dbm, Bus}
@@ -25,7 +26,7 @@ use Rattle.rf_status.specs.declared.Detectors.{Detectors}
 use Rattle.rf_status.specs.declared.Measures.{Measures}
 use Rattle.rf_status.specs.declared.Measures.the-variants.{All, Stopped}
 use Rattle.rf_status.specs.declared.Numbers.{Numbers}
-use Rattle.rf_status.specs.Numbers.{p28vCurrent, p5vCurrent, p5vVoltage, detected}
+use Rattle.rf_status.specs.Numbers.{p28vCurrent, p5vCurrent, p5vVoltage}
 
 abbrev pub numbersOf : ChannelSettings → Detectors → Four → Float → Float → Numbers
 numbersOf s d four temperature input =

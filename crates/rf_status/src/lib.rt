@@ -2,14 +2,12 @@
 use ads7924::Four;
 use ads7924::Readings;
 use bus::Cursor;
-use linear_transformation::LinearTransformation;
 use rf_call::Answer;
 use rf_call::ChannelStatus;
 use rf_call::Ended;
 use rf_call::Givens;
 use rf_call::Report;
 use rf_call::Temperature;
-use rf_channel::ChannelSettings;
 use rf_channel::RfChannel;
 use rf_devices::Power;
 use rf_machine::Cause;
@@ -17,7 +15,7 @@ ghost use Prim.Native.Nat.{_≤_};
 ghost use mathlib.Core.Path.{_≡_};
 ghost use lib.ListN.{length};
 ghost use Rattle.bus.specs.Run.{Does, Room};
-ghost use Rattle.rf_status.specs.Numbers.{p28vCurrent, p5vCurrent, p5vVoltage, detected, filled, shownOf};
+ghost use Rattle.rf_status.specs.Numbers.{p28vCurrent, p5vCurrent, p5vVoltage, filled, shownOf};
 ghost use Rattle.rf_status.specs.Status.{numbersOf, measuring, statusOf, gettingStatus};
 
 // The millivolts of the two power detectors, as the processor's own converter reads them.
@@ -69,30 +67,20 @@ fn p5v_voltage(volts: f32) -> f32
     volts * 2.5
 }
 
-// The power that a detector's millivolts stand for.
-fn detected_power(transform: LinearTransformation, millivolts: u16) -> f32
-    ensures { λ r. ⌜ r ≡ detected transform millivolts ⌝ }
-{
-    let volts = millivolts as f32 / 1000.0;
-    transform.map(volts)
-}
-
 fn numbers_of(
-    settings: ChannelSettings,
+    channel: RfChannel,
     detectors: Detectors,
     four: Four,
     temperature: f32,
     input_power: f32,
 ) -> Numbers
-    ensures { λ r. ⌜ r ≡ numbersOf settings detectors four temperature «input_power» ⌝ }
+    ensures { λ r. ⌜ r ≡ numbersOf (channel .settings) detectors four temperature «input_power» ⌝ }
 {
-    let reflected_transform = settings.reflected_power_transform;
-    let output_transform = settings.output_power_transform;
     let p28v = p28v_current(four.v0);
     let p5v = p5v_current(four.v1);
     let rail = p5v_voltage(four.v3);
-    let reflected = detected_power(reflected_transform, detectors.reflected);
-    let output = detected_power(output_transform, detectors.output);
+    let reflected = rf_methods::get_reflected_power(channel, detectors.reflected);
+    let output = rf_methods::get_output_power(channel, detectors.output);
     Numbers {
         temperature,
         p28v_current: p28v,
@@ -116,12 +104,12 @@ fn measure(
     log: &mut [u8],
     replies: &[u8],
     at: Cursor,
-    settings: ChannelSettings,
+    channel: RfChannel,
     detectors: Detectors,
     temperature: Temperature,
 ) -> Taken
     requires { ⌜ Room at 5 5 (now log) (now replies) ⌝ }
-    ensures { λ r. ⌜ Does (measuring settings detectors temperature) (now (replies .entry)) (now (log .entry)) at 5 5 (now (log .exit)) (r .next) (r .measures) ⌝ }
+    ensures { λ r. ⌜ Does (measuring (channel .settings) detectors temperature) (now (replies .entry)) (now (log .entry)) at 5 5 (now (log .exit)) (r .next) (r .measures) ⌝ }
 {
     let scanned = ads7924::get_voltages_at(log, replies, at);
     let readings = scanned.readings;
@@ -134,6 +122,7 @@ fn measure(
         let cause = Cause::Temperature;
         return stopped(cause, next);
     };
+    let settings = channel.settings;
     let sensed = rf_devices::get_input_power(log, replies, next, settings);
     let power = sensed.power;
     let next = sensed.next;
@@ -141,7 +130,7 @@ fn measure(
         let cause = Cause::Bus;
         return stopped(cause, next);
     };
-    let numbers = numbers_of(settings, detectors, four, celsius, dbm);
+    let numbers = numbers_of(channel, detectors, four, celsius, dbm);
     let measures = Measures::All(numbers);
     Taken { measures, next }
 }
@@ -187,9 +176,8 @@ pub fn get_status(
     requires { ⌜ Room at 7 5 (now log) (now replies) × (7 ≤ length (now numbers)) ⌝ }
     ensures { λ r. ⌜ Does (gettingStatus channel detectors givens) (now (replies .entry)) (now (log .entry)) at 7 5 (now (log .exit)) (r .next) (r .outcome) × (now (numbers .exit) ≡ shownOf (measuring (channel .settings) detectors (givens .temperature) (now (replies .entry)) (at .slot) (at .taken) .ans) (now (numbers .entry))) ⌝ }
 {
-    let settings = channel.settings;
     let temperature = givens.temperature;
-    let taken = measure(log, replies, at, settings, detectors, temperature);
+    let taken = measure(log, replies, at, channel, detectors, temperature);
     let measures = taken.measures;
     let next = taken.next;
     match measures {

@@ -65,7 +65,8 @@ pub fn get_overdrive_source(power: f32, givens: Givens) -> Overdrive
     Overdrive::Quiet
 }
 
-pub fn is_enabled(state: States) -> bool
+// The state is Enabled: of the pin there is `is_enabled` of rf_methods.
+pub fn state_is_enabled(state: States) -> bool
     ensures { λ r. ⌜ r ≡ isEnabled state ⌝ }
 {
     match state {

@@ -1,26 +1,14 @@
--- Two runs that agree on what stands in the slot, on the arguments and on the replies agree on everything: answer, rows and how many replies are taken. What their logs hold and how many rows are used does not matter. Assumes nothing.
-use mathlib.Core.Path.{_≡_, sym, ap, _∙_}
-use mathlib.Core.List.{List}
-use Prim.Native.Nat.{ℕ}
+-- Two runs that agree on what stands in the slot, on the arguments and on the replies agree on everything. Assumes nothing.
+use mathlib.Core.Path.{sym, ap, _∙_}
 use Rattle.bus.specs.declared.Cursor.{Cursor}
-use Rattle.bus.specs.Rows.{Row, written}
-use Rattle.bus.specs.Run.{Run, Does}
+use Rattle.rf_theorems.specs.Agree.{RunsAgree}
 
--- the same answer, the same count of replies, and the same rows, each in its own log
-pub record Agreed {A : Type 0} (l l′ k k′ : List ℕ) (c c′ d d′ : Cursor) (a b : A) : Type 0 where
-  pub ans : a ≡ b
-  pub taken : c′ .taken ≡ d′ .taken
-  pub rows : List Row
-  pub left : l′ ≡ written l (c .used) rows
-  pub right : k′ ≡ written k (d .used) rows
-
-pub agree : {A : Type 0} {m : Run A} {rs l l′ k k′ : List ℕ} {c c′ d d′ : Cursor} {n t n₂ t₂ : ℕ} {a b : A}
-    → Does m rs l c n t l′ c′ a → Does m rs k d n₂ t₂ k′ d′ b → c .slot ≡ d .slot → c .taken ≡ d .taken → Agreed l l′ k k′ c c′ d d′ a b
-agree {A} {m} {rs} {l} {l′} {k} {k′} {c} {c′} {d} {d′} x y s t =
+pub agree : RunsAgree
+agree A m rs l l′ k k′ c c′ d d′ n t n₂ t₂ a b x y s v =
     record {
-      ans = x .ans ∙ rw (s, t) (sym (y .ans));
-      taken = ap (λ (z : Cursor). z .taken) (x .next) ∙ rw (s, t) (sym (ap (λ (z : Cursor). z .taken) (y .next)));
+      ans = x .ans ∙ rw (s, v) (sym (y .ans));
+      taken = ap (λ (z : Cursor). z .taken) (x .next) ∙ rw (s, v) (sym (ap (λ (z : Cursor). z .taken) (y .next)));
       rows = m rs (c .slot) (c .taken) .rows;
       left = x .log;
-      right = rw (s, t) (y .log);
+      right = rw (s, v) (y .log);
     }

@@ -8,4 +8,4 @@ pub mod Events
 pub mod Agree
 pub mod Levels
 pub mod Trips
-pub mod Cases
+pub mod Impostors

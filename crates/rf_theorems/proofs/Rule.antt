@@ -3,7 +3,7 @@ use Prim.Native.Nat.{ℕ}
 use mathlib.Core.Path.{_≡_, refl, sym, ap, _∙_}
 use mathlib.Core.Bool.{Bool, true, false, cond, _&&_, Bool·beq}
 use mathlib.Core.List.{List, [], _∷_}
-use lib.Dec.{T, eqb, eqb→eq}
+use lib.Dec.{T, eqb}
 use lib.Ieee.{lt}
 use Rattle.bus.specs.declared.Note.the-variants.{SignalOn, EnablePower, Wait}
 use Rattle.bus.specs.Run.{Run, done, mapped}
@@ -18,7 +18,9 @@ use Rattle.rf_channel.specs.declared.States.{States}
 use Rattle.rf_plan.specs.Table.{Shape, Line, table, _+_⟦_⟧_⇒_}
 use Rattle.rf_plan.specs.Table as T
 use Rattle.rf_channel.specs.Guards.{lowest}
-use Rattle.rf_plan.specs.Plan.{shapeOf, nameOf, shapeNumber, nameNumber, holds, arrive, planned}
+use Rattle.rf_plan.specs.Plan.{shapeOf, shapeNumber, tripOf, newFault, holds, arrive, meant, for, planned}
+use Rattle.rf_plan.specs.Whole.{IfAny}
+use Rattle.rf_plan.proofs.Whole.{both, same-shape, if-given, if-more, if-meant}
 use Rattle.rf_machine.specs.declared.Cause.{Cause}
 use Rattle.rf_machine.specs.declared.Cause.the-variants.{Level}
 use Rattle.rf_machine.specs.declared.Effect.{Effect}
@@ -46,40 +48,21 @@ table-ok = tt
 
 -- ---- what the test says of every plan
 
-both : (a b : Bool) → T (a && b) → T a × T b
-both true b t = (tt, t)
-both false b t = absurd t
-
 beq→eq : (a b : Bool) → T (Bool·beq a b) → a ≡ b
 beq→eq true true t = refl
 beq→eq true false t = absurd t
 beq→eq false true t = absurd t
 beq→eq false false t = refl
 
-shapeAt : ℕ → Shape
-shapeAt n = cond (eqb n 0) T.Off (cond (eqb n 1) T.Powerup (cond (eqb n 2) T.Powered (cond (eqb n 3) T.Enabled (cond (eqb n 4) T.Tripped (cond (eqb n 5) T.Powerdown T.Blocked)))))
-
-at-number : (s : Shape) → shapeAt (shapeNumber s) ≡ s
-unfolding shapeAt
-at-number T.Off = refl
-at-number T.Powerup = refl
-at-number T.Powered = refl
-at-number T.Enabled = refl
-at-number T.Tripped = refl
-at-number T.Powerdown = refl
-at-number T.Blocked = refl
-
-same-shape : (a b : Shape) → T (eqb (shapeNumber a) (shapeNumber b)) → a ≡ b
-same-shape a b t = sym (at-number a) ∙ ap shapeAt (eqb→eq _ _ t) ∙ at-number b
-
-arrives : (to : Shape) (s : States) (e : Events) (tick : ℕ) → shapeOf (arrive to s e tick) ≡ to
+-- the next state is of the shape that the line names
+arrives : (to : Shape) (s : States) (e : Events) (tick : ℕ) → IfAny (λ x. shapeOf x ≡ to) (arrive to s e tick)
 arrives T.Off s e tick = refl
 arrives T.Powerup s e tick = refl
 arrives T.Powered s e tick = refl
 arrives T.Enabled s e tick = refl
-arrives T.Tripped s e tick = refl
+arrives T.Tripped s e tick = if-given _ _ (tripOf e) (λ i. refl)
 arrives T.Powerdown s e tick = refl
-arrives T.Blocked s e tick = refl
+arrives T.Blocked s e tick = if-given _ _ (newFault e) (λ f. refl)
 
 -- the levels that a channel holds are those of its state
 abbrev pub Right : RfChannel → Type 0
@@ -94,10 +77,10 @@ pair : {a a′ b b′ : Bool} → a ≡ a′ → b ≡ b′ → _≡_ {A = Level
 pair e f = rw (e, f)
 
 module _ (c : RfChannel) (e : Events) (tick : ℕ) (watchdog : Bool) (right : Right c) where
-  line-good : (from to : Shape) (action : Action) → from ≡ shapeOf (c .state) → T (Bool·beq (signalIn to) (signalAfter action (signalIn from)) && Bool·beq (powerIn to) (powerAfter action (powerIn from))) → Right (moved c action (arrive to (c .state) e tick))
-  line-good from to action s t =
+  line-good : (from to : Shape) (action : Action) (x : States) → shapeOf x ≡ to → from ≡ shapeOf (c .state) → T (Bool·beq (signalIn to) (signalAfter action (signalIn from)) && Bool·beq (powerIn to) (powerAfter action (powerIn from))) → Right (moved c action x)
+  line-good from to action x h s t =
       let u = both (Bool·beq (signalIn to) (signalAfter action (signalIn from))) _ t in
-      rw (arrives to (c .state) e tick)
+      rw h
       (pair
       (ap (λ (x : Levels). signalAfter action (x .signal)) right ∙ ap (λ (x : Shape). signalAfter action (signalIn x)) (sym s) ∙ sym (beq→eq (signalIn to) (signalAfter action (signalIn from)) (u .0)))
       (ap (λ (x : Levels). powerAfter action (x .power)) right ∙ ap (λ (x : Shape). powerAfter action (powerIn x)) (sym s) ∙ sym (beq→eq (powerIn to) (powerAfter action (powerIn from)) (u .1))))
@@ -111,10 +94,12 @@ module _ (c : RfChannel) (e : Events) (tick : ℕ) (watchdog : Bool) (right : Ri
   planned-good [] t = tt
   planned-good ((from + on ⟦ guard ⟧ action ⇒ to) ∷ lines) t =
       let u = both (lineOk (from + on ⟦ guard ⟧ action ⇒ to)) (allOk lines) t in
+      let next = arrive to (c .state) e tick in
       let here = eqb (shapeNumber from) (shapeNumber (shapeOf (c .state))) in
-      let go = Go action (arrive to (c .state) e tick) in
-      choose (here && eqb (nameNumber on) (nameNumber (nameOf e))) (cond (holds guard c tick watchdog) go GuardFalse) (planned lines c e tick watchdog)
-      (λ s. choose (holds guard c tick watchdog) go GuardFalse (λ h. line-good from to action (same-shape from (shapeOf (c .state)) (both here _ s .0)) (u .0)) tt)
+      choose (for from on (c .state) e) (meant action (holds guard c tick watchdog) next) (planned lines c e tick watchdog)
+      (λ s.
+      let shape = same-shape from (shapeOf (c .state)) (both here _ s .0) in
+      if-meant (Good c) tt tt action (holds guard c tick watchdog) next (if-more _ _ next (λ x h. line-good from to action x h shape (u .0)) (arrives to (c .state) e tick)))
       (planned-good lines (u .1))
 
 plan-good : (c : RfChannel) (e : Events) (tick : ℕ) (watchdog : Bool) → Right c → Good c (planned table c e tick watchdog)

@@ -4,7 +4,6 @@ use mathlib.Core.Path.{_≡_, refl}
 use mathlib.Core.List.{List}
 use Rattle.bus.specs.Run.{Run, done, bind, mapped}
 use Rattle.rf_channel.specs.declared.ChannelFault.{ChannelFault}
-use Rattle.rf_channel.specs.declared.Events.the-variants.{Fault}
 use Rattle.rf_channel.specs.declared.RfChannel.{RfChannel}
 use Rattle.rf_channel.specs.declared.States.the-variants.{Blocked}
 use Rattle.rf_channel.specs.declared.Action.the-variants.{HandleFault}
@@ -14,11 +13,10 @@ use Rattle.rf_machine.specs.declared.Effect.the-variants.{Did, Stop}
 use Rattle.rf_machine.specs.Hardware.{hardware}
 use Rattle.rf_machine.specs.Event.{arrived, carry, processEvent}
 use Rattle.rf_call.specs.declared.Givens.{Givens}
-use Rattle.rf_tests.specs.declared.Check.the-variants.{Found}
 use Rattle.rf_update.specs.declared.Stage.the-variants.{Going}
-use Rattle.rf_tests.specs.Tests.{checkFaults}
 use Rattle.rf_update.specs.Update.{stageOf, raising, onCheck, faultStage, tripStage, afterStage, finishing, updating}
-use Rattle.rf_theorems.proofs.Events.{fault-listed}
+use Rattle.rf_theorems.specs.Trips.{NoTripAfterFault}
+use Rattle.rf_theorems.proofs.Events.{fault-blocks}
 
 -- a blocked channel is not read
 pub blocked-unread : (c : RfChannel) (g : Givens) (f : ChannelFault) → c .state ≡ Blocked f → tripStage c g ≡ done (Going c)
@@ -46,7 +44,6 @@ raised c g f rs slot taken =
     bind-same (mapped stageOf (mapped (arrived c HandleFault (Blocked f)) (hardware HandleFault (c .settings)))) (afterStage (λ x. bind (tripStage x g) (afterStage (finishing g)))) (afterStage (finishing g)) rs slot taken
     (after-fault c g f (hardware HandleFault (c .settings) rs slot taken .ans) rs slot (hardware HandleFault (c .settings) rs slot taken .taken))
 
-pub fault-then-update : (c : RfChannel) (g : Givens) (f : ChannelFault) → checkFaults g ≡ Found f → (rs : List ℕ) (slot taken : ℕ)
-    → updating c g rs slot taken ≡ bind (raising c (Fault f) g) (afterStage (finishing g)) rs slot taken
+pub fault-then-update : NoTripAfterFault
 unfolding updating faultStage onCheck raising processEvent carry
-fault-then-update c g f h rs slot taken = rw (h, fault-listed c (g .tick) (g .watchdog) f) (raised c g (faultOf (c .state) (Fault f)) rs slot taken)
+fault-then-update c g f h rs slot taken = rw (h, fault-blocks c (g .tick) (g .watchdog) f) (raised c g (faultOf (c .state) f) rs slot taken)

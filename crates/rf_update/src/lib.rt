@@ -113,7 +113,7 @@ fn trip_stage(
     ensures { λ r. ⌜ Does (tripStage channel givens) (now (replies .entry)) (now (log .entry)) at 4 2 (now (log .exit)) (r .next) (r .stage) ⌝ }
 {
     let state = channel.state;
-    let enabled = rf_tests::is_enabled(state);
+    let enabled = rf_tests::state_is_enabled(state);
     if enabled {
         let settings = channel.settings;
         let sensed = rf_devices::get_input_power(log, replies, at, settings);

@@ -11,7 +11,7 @@ use Rattle.rf_status.proofs.get_status.Statement.{statement}
 use Rattle.rf_status.proofs.get_status.Tie as tie
 
 measure-requires : tie.Need-measure-requires
-measure-requires c κs = room-less (c .before .before .before .before .before .pre .0) (lit≤ tt) (lit≤ tt)
+measure-requires c κs = room-less (c .before .before .before .before .pre .0) (lit≤ tt) (lit≤ tt)
 
 enum-known-measures : tie.Need-enum-known-measures
 enum-known-measures c = search needs
@@ -29,7 +29,7 @@ enum-known-measures-2 : tie.Need-enum-known-measures-2
 enum-known-measures-2 c = search needs
 
 halt-requires : tie.Need-halt-requires
-halt-requires c κs = room-halt (room-after (c .before .before .before .before .before .before .before .measure .ensures) (c .before .before .before .before .before .before .before .before .before .before .before .before .before .pre .0))
+halt-requires c κs = room-halt (room-after (c .before .before .before .before .before .before .before .measure .ensures) (c .before .before .before .before .before .before .before .before .before .before .before .before .pre .0))
 
 same-length : tie.Need-same-length
 same-length c = search needs

@@ -45,7 +45,7 @@ unfolding measuring onVoltages onTemperature
 returns-2 c = rw (c .before .enum-told2 .given .1) (does-more (does-then (onVoltages _ _ _) (c .before .before .before .before .before .before .before .before .before .get-voltages-at .ensures) (c .before .before .before .before .readings .given .1) (does-here (c .stopped2 .ensures .0) (c .stopped2 .ensures .1))) (lit≤ tt) (lit≤ tt))
 
 get-input-power-requires : tie.Need-get-input-power-requires
-get-input-power-requires c κs = room-after (c .before .before .before .before .before .before .before .before .before .before .get-voltages-at .ensures) (c .before .before .before .before .before .before .before .before .before .before .before .before .before .before .pre)
+get-input-power-requires c κs = room-after (c .before .before .before .before .before .before .before .before .before .before .before .get-voltages-at .ensures) (c .before .before .before .before .before .before .before .before .before .before .before .before .before .before .before .pre)
 
 enum-known-power : tie.Need-enum-known-power
 enum-known-power c = search needs
@@ -57,21 +57,21 @@ stopped-requires-3 : tie.Need-stopped-requires-3
 stopped-requires-3 c κs = search needs
 
 same-length-3 : tie.Need-same-length-3
-same-length-3 c = c .before .before .before .before .before .before .get-input-power .kept .0 ∙ c .before .before .before .before .before .before .before .before .before .before .before .before .before .before .before .before .before .get-voltages-at .kept .0
+same-length-3 c = c .before .before .before .before .before .before .get-input-power .kept .0 ∙ c .before .before .before .before .before .before .before .before .before .before .before .before .before .before .before .before .before .before .get-voltages-at .kept .0
 
 returns-3 : tie.Need-returns-3
 unfolding measuring onVoltages onTemperature onInput
-returns-3 c = rw (c .before .before .before .before .before .before .before .before .before .temperature .given .1) (does-more (does-then (onVoltages _ _ _) (c .before .before .before .before .before .before .before .before .before .before .before .before .before .before .before .before .before .get-voltages-at .ensures) (c .before .before .before .before .before .before .before .before .before .before .before .before .readings .given .1) (does-then (onInput _) (c .before .before .before .before .before .before .get-input-power .ensures) (c .before .enum-told3 .given .1) (does-here (c .stopped3 .ensures .0) (c .stopped3 .ensures .1)))) (lit≤ tt) (lit≤ tt))
+returns-3 c = rw (c .before .before .before .before .before .before .before .before .before .before .temperature .given .1) (does-more (does-then (onVoltages _ _ _) (c .before .before .before .before .before .before .before .before .before .before .before .before .before .before .before .before .before .before .get-voltages-at .ensures) (c .before .before .before .before .before .before .before .before .before .before .before .before .before .readings .given .1) (does-then (onInput _) (c .before .before .before .before .before .before .get-input-power .ensures) (c .before .enum-told3 .given .1) (does-here (c .stopped3 .ensures .0) (c .stopped3 .ensures .1)))) (lit≤ tt) (lit≤ tt))
 
 numbers-of-requires : tie.Need-numbers-of-requires
 numbers-of-requires c κs = search needs
 
 same-length-4 : tie.Need-same-length-4
-same-length-4 c = c .before .before .before .before .before .before .before .get-input-power .kept .0 ∙ c .before .before .before .before .before .before .before .before .before .before .before .before .before .before .before .before .before .before .get-voltages-at .kept .0
+same-length-4 c = c .before .before .before .before .before .before .before .get-input-power .kept .0 ∙ c .before .before .before .before .before .before .before .before .before .before .before .before .before .before .before .before .before .before .before .get-voltages-at .kept .0
 
 returns-4 : tie.Need-returns-4
 unfolding measuring onVoltages onTemperature onInput
-returns-4 c = rw (c .before .before .before .before .before .before .before .before .before .before .temperature .given .1) (does-then (onVoltages _ _ _) (c .before .before .before .before .before .before .before .before .before .before .before .before .before .before .before .before .before .before .get-voltages-at .ensures) (c .before .before .before .before .before .before .before .before .before .before .before .before .before .readings .given .1) (does-then (onInput _) (c .before .before .before .before .before .before .before .get-input-power .ensures) (c .before .before .power .given .1) (does-end (ap All (c .numbers-of .ensures)))))
+returns-4 c = rw (c .before .before .before .before .before .before .before .before .before .before .before .temperature .given .1) (does-then (onVoltages _ _ _) (c .before .before .before .before .before .before .before .before .before .before .before .before .before .before .before .before .before .before .before .get-voltages-at .ensures) (c .before .before .before .before .before .before .before .before .before .before .before .before .before .before .readings .given .1) (does-then (onInput _) (c .before .before .before .before .before .before .before .get-input-power .ensures) (c .before .before .power .given .1) (does-end (ap All (c .numbers-of .ensures)))))
 
 pub measure-spec : {M : Type 1} → statement M
 measure-spec =

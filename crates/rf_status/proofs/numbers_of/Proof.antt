@@ -12,14 +12,14 @@ p5v-current-requires c κs = search needs
 p5v-voltage-requires : tie.Need-p5v-voltage-requires
 p5v-voltage-requires c κs = search needs
 
-detected-power-requires : tie.Need-detected-power-requires
-detected-power-requires c κs = search needs
+get-reflected-power-requires : tie.Need-get-reflected-power-requires
+get-reflected-power-requires c κs = search needs
 
-detected-power-requires-2 : tie.Need-detected-power-requires-2
-detected-power-requires-2 c κs = search needs
+get-output-power-requires : tie.Need-get-output-power-requires
+get-output-power-requires c κs = search needs
 
 returns : tie.Need-returns
-returns c = rw (c .before .before .before .before .p28v-current .ensures, c .before .before .before .p5v-current .ensures, c .before .before .p5v-voltage .ensures, c .before .detected-power .ensures, c .detected-power2 .ensures)
+returns c = rw (c .before .before .before .before .p28v-current .ensures, c .before .before .before .p5v-current .ensures, c .before .before .p5v-voltage .ensures, c .before .get-reflected-power .ensures, c .get-output-power .ensures)
 
 pub numbers-of-spec : {M : Type 1} → statement M
 numbers-of-spec =
@@ -28,6 +28,6 @@ numbers-of-spec =
     p28v-current-requires
     p5v-current-requires
     p5v-voltage-requires
-    detected-power-requires
-    detected-power-requires-2
+    get-reflected-power-requires
+    get-output-power-requires
     returns)

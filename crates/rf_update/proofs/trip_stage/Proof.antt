@@ -7,8 +7,8 @@ use Rattle.rf_update.specs.Update.{onOverdrive, onPower, tripStage}
 use Rattle.rf_update.proofs.trip_stage.Statement.{statement}
 use Rattle.rf_update.proofs.trip_stage.Tie as tie
 
-is-enabled-requires : tie.Need-is-enabled-requires
-is-enabled-requires c κs = search needs
+state-is-enabled-requires : tie.Need-state-is-enabled-requires
+state-is-enabled-requires c κs = search needs
 
 get-input-power-requires : tie.Need-get-input-power-requires
 get-input-power-requires c κs = room-less (c .before .before .before .before .before .before .pre) (lit≤ tt) (lit≤ tt)
@@ -27,7 +27,7 @@ same-length c = search needs
 
 returns : tie.Need-returns
 unfolding tripStage onPower
-returns c = rw (← c .before .before .before .before .before .before .before .before .before .before .is-enabled .ensures, c .before .before .before .before .before .before .before .before .before .if1 .taken) (does-more (does-then (onPower _ _) (c .before .before .before .before .before .before .get-input-power .ensures) (c .before .enum-told .given .1) (does-here (c .stopped .ensures .0) (c .stopped .ensures .1))) (lit≤ tt) (lit≤ tt))
+returns c = rw (← c .before .before .before .before .before .before .before .before .before .before .state-is-enabled .ensures, c .before .before .before .before .before .before .before .before .before .if1 .taken) (does-more (does-then (onPower _ _) (c .before .before .before .before .before .before .get-input-power .ensures) (c .before .enum-told .given .1) (does-here (c .stopped .ensures .0) (c .stopped .ensures .1))) (lit≤ tt) (lit≤ tt))
 
 get-overdrive-source-requires : tie.Need-get-overdrive-source-requires
 get-overdrive-source-requires c κs = search needs
@@ -46,7 +46,7 @@ same-length-2 c = search needs
 
 returns-2 : tie.Need-returns-2
 unfolding tripStage onPower onOverdrive
-returns-2 c = rw (← c .before .before .before .before .before .before .before .before .before .before .before .before .before .before .is-enabled .ensures, c .before .before .before .before .before .before .before .before .before .before .before .before .before .if1 .taken) (does-more (does-then {n′ = 0} {t′ = 0} (onPower _ _) (c .before .before .before .before .before .before .before .before .before .before .get-input-power .ensures) (c .before .before .before .before .before .power .given .1) (rw (← c .before .before .before .get-overdrive-source .ensures, c .before .enum-told2 .given .1) (does-here (c .going .ensures .0) (c .going .ensures .1)))) (lit≤ tt) (lit≤ tt))
+returns-2 c = rw (← c .before .before .before .before .before .before .before .before .before .before .before .before .before .before .state-is-enabled .ensures, c .before .before .before .before .before .before .before .before .before .before .before .before .before .if1 .taken) (does-more (does-then {n′ = 0} {t′ = 0} (onPower _ _) (c .before .before .before .before .before .before .before .before .before .before .get-input-power .ensures) (c .before .before .before .before .before .power .given .1) (rw (← c .before .before .before .get-overdrive-source .ensures, c .before .enum-told2 .given .1) (does-here (c .going .ensures .0) (c .going .ensures .1)))) (lit≤ tt) (lit≤ tt))
 
 raise-requires : tie.Need-raise-requires
 raise-requires c κs = room-after (c .before .before .before .before .before .before .before .before .before .before .before .get-input-power .ensures) (c .before .before .before .before .before .before .before .before .before .before .before .before .before .before .before .before .before .before .pre)
@@ -59,17 +59,17 @@ same-length-3 c = search needs
 
 returns-3 : tie.Need-returns-3
 unfolding tripStage onPower onOverdrive
-returns-3 c = rw (← c .before .before .before .before .before .before .before .before .before .before .before .before .before .before .before .before .before .before .is-enabled .ensures, c .before .before .before .before .before .before .before .before .before .before .before .before .before .before .before .before .before .if1 .taken) (does-then {n′ = 3} {t′ = 1} (onPower _ _) (c .before .before .before .before .before .before .before .before .before .before .before .before .before .before .get-input-power .ensures) (c .before .before .before .before .before .before .before .before .before .power .given .1) (rw (← c .before .before .before .before .before .before .before .get-overdrive-source .ensures, c .before .before .before .before .before .overdrive .given .1) (c .before .before .raise .ensures)))
+returns-3 c = rw (← c .before .before .before .before .before .before .before .before .before .before .before .before .before .before .before .before .before .before .state-is-enabled .ensures, c .before .before .before .before .before .before .before .before .before .before .before .before .before .before .before .before .before .if1 .taken) (does-then {n′ = 3} {t′ = 1} (onPower _ _) (c .before .before .before .before .before .before .before .before .before .before .before .before .before .before .get-input-power .ensures) (c .before .before .before .before .before .before .before .before .before .power .given .1) (rw (← c .before .before .before .before .before .before .before .get-overdrive-source .ensures, c .before .before .before .before .before .overdrive .given .1) (c .before .before .raise .ensures)))
 
 returns-4 : tie.Need-returns-4
 unfolding tripStage
-returns-4 c = rw (← c .before .before .is-enabled .ensures, c .before .if1 .left) (does-more (does-here (c .going2 .ensures .0) (c .going2 .ensures .1)) (lit≤ tt) (lit≤ tt))
+returns-4 c = rw (← c .before .before .state-is-enabled .ensures, c .before .if1 .left) (does-more (does-here (c .going2 .ensures .0) (c .going2 .ensures .1)) (lit≤ tt) (lit≤ tt))
 
 pub trip-stage-spec : {M : Type 1} → statement M
 trip-stage-spec =
     tie.close
     (tie.spec
-    is-enabled-requires
+    state-is-enabled-requires
     get-input-power-requires
     enum-known-power
     enum-told

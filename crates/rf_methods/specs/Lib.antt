@@ -1,0 +1,2 @@
+-- What a channel is asked without its bus.
+pub mod Methods

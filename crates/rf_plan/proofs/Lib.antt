@@ -1,0 +1,2 @@
+-- The table has all that its lines need.
+pub mod Whole
