@@ -17,20 +17,17 @@ use Rattle.entry.specs.declared.Call.{Call}
 use Rattle.entry.specs.declared.Call.the-variants.{Start, Ask}
 use Rattle.entry.specs.declared.Refusal.{Refusal}
 use Rattle.entry.specs.declared.Refusal.the-variants as No
+use Rattle.entry.specs.declared.Admitted.{Admitted}
+use Rattle.entry.specs.declared.Admitted.the-variants as In
 use Rattle.entry.specs.declared.Entry.{Entry}
 use Rattle.entry.specs.declared.Entry.the-variants.{Open, Shut}
 
 -- ---- what is asked
 
--- everything but a start
-abbrev pub asks : Call → Bool
-asks (Start settings present) = false
-asks (Ask request givens) = true
-
--- the places that a call asks for
-abbrev pub placesOf : Call → ℕ
-placesOf (Start settings present) = 0
-placesOf (Ask request givens) = places request
+-- the places that a call asks for once it is let in
+abbrev pub placesOf : Admitted → ℕ
+placesOf (In.Start settings present) = 0
+placesOf (In.Ask c request givens) = places request
 
 -- a status fills seven places
 abbrev pub fills : Request → Bool
@@ -63,23 +60,6 @@ abbrev pub unfit : Call → Bool
 unfit (Start settings present) = false
 unfit (Ask request givens) = looks request && not (temperatureFits (givens .temperature))
 
--- ---- what stands in the slot
-
-abbrev pub isEmpty : Slot → Bool
-isEmpty S.Empty = true
-isEmpty (S.Halted cause) = false
-isEmpty (S.Channel c) = false
-
-abbrev pub isHalted : Slot → Bool
-isHalted S.Empty = false
-isHalted (S.Halted cause) = true
-isHalted (S.Channel c) = false
-
-abbrev pub isChannel : Slot → Bool
-isChannel S.Empty = false
-isChannel (S.Halted cause) = false
-isChannel (S.Channel c) = true
-
 -- ---- the log
 
 -- the whole rows that are free in a log of that many bytes: none where the count is past the log's end
@@ -96,13 +76,23 @@ infix 30 _gives_
 abbrev pub _gives_ : Bool → Refusal → Test
 b gives r = record { applies = b; refusal = r }
 
+-- the first that applies; e where none does
+abbrev pub firstOf : List Test → Entry → Entry
+firstOf [] e = e
+firstOf (t ∷ more) e = cond (t .applies) (Shut (t .refusal)) (firstOf more e)
+
 -- 1: the slot is above 7
 abbrev pub ofNumber : ℕ → List Test
 ofNumber slot = (leb 8 slot gives No.Slot) ∷ []
 
--- 2, 3, 4: it is empty; it was halted earlier; it holds a channel, and this is a start
-abbrev pub ofStanding : Slot → Call → List Test
-ofStanding s call = (asks call && isEmpty s gives No.Empty) ∷ (asks call && isHalted s gives No.Halted) ∷ (not (asks call) && isChannel s gives No.Taken) ∷ []
+-- 2, 3, 4: a request of an empty slot; of one that was halted earlier; a start of one that holds a channel. Any other call finds what it is for, and is let in if none of the further tests applies.
+abbrev pub ofStanding : Slot → Call → List Test → Entry
+ofStanding S.Empty (Ask request givens) further = Shut No.Empty
+ofStanding (S.Halted cause) (Ask request givens) further = Shut No.Halted
+ofStanding (S.Channel c) (Start settings present) further = Shut No.Taken
+ofStanding S.Empty (Start settings present) further = firstOf further (Open (In.Start settings present))
+ofStanding (S.Halted cause) (Start settings present) further = firstOf further (Open (In.Start settings present))
+ofStanding (S.Channel c) (Ask request givens) further = firstOf further (Open (In.Ask c request givens))
 
 -- 5, 6: fewer than 20 rows of the log are free; fewer than 135 bytes of replies
 abbrev pub ofRoom : ℕ → ℕ → List Test
@@ -113,17 +103,8 @@ abbrev pub ofGiven : Call → ℕ → List Test
 ofGiven call numbers = (short call numbers gives No.Numbers) ∷ (unfit call gives No.Temperature) ∷ []
 
 -- all of them: the slot's number and what stands in it, the call, the rows free, and the lengths of the replies and of the number slice
-abbrev pub tests : ℕ → Slot → Call → ℕ → ℕ → ℕ → List Test
-tests slot standing call free replies numbers = ofNumber slot ++ (ofStanding standing call ++ (ofRoom free replies ++ ofGiven call numbers))
-
--- ---- the first that applies
-
-abbrev pub firstOf : List Test → Entry
-firstOf [] = Open
-firstOf (t ∷ more) = cond (t .applies) (Shut (t .refusal)) (firstOf more)
-
 abbrev pub entryOf : ℕ → Slot → Call → ℕ → ℕ → ℕ → Entry
-entryOf slot standing call free replies numbers = firstOf (tests slot standing call free replies numbers)
+entryOf slot standing call free replies numbers = firstOf (ofNumber slot) (ofStanding standing call (ofRoom free replies ++ ofGiven call numbers))
 
 -- document 01's number of each refusal
 abbrev pub numberOf : Refusal → ℕ

@@ -7,7 +7,9 @@ use rf_call::Slot;
 use rf_call::Temperature;
 use rf_calls::Request;
 use rf_channel::ChannelSettings;
+use rf_channel::RfChannel;
 ghost use mathlib.Core.Path.{_≡_};
+ghost use mathlib.Core.List.{[]};
 ghost use lib.Ieee.Scale.{finite};
 ghost use Rattle.entry.specs.Tests.{freeRows, ofStanding, ofRoom, ofGiven, temperatureFits, firstOf, entryOf, numberOf};
 
@@ -30,9 +32,15 @@ pub enum Refusal {
     Temperature,
 }
 
+// What is let in: a start, or a request with the channel that it is for.
+pub enum Admitted {
+    Start(ChannelSettings, bool),
+    Ask(RfChannel, Request, Givens),
+}
+
 // Let in; or not, and why.
 pub enum Entry {
-    Open,
+    Open(Admitted),
     Shut(Refusal),
 }
 
@@ -42,40 +50,58 @@ fn shut(refusal: Refusal) -> Entry
     Entry::Shut(refusal)
 }
 
-// A start is for a slot without a channel, and a request for one with a channel.
-fn of_standing(slot: Slot, call: Call) -> Entry
-    ensures { λ r. ⌜ r ≡ firstOf (ofStanding slot call) ⌝ }
+// A start is for a slot without a channel.
+fn start_of(slot: Slot, settings: ChannelSettings, present: bool) -> Entry
+    ensures { λ r. ⌜ r ≡ ofStanding slot (Call.Start settings present) [] ⌝ }
 {
-    match call {
-        Call::Start(_, _) => match slot {
-            Slot::Empty => Entry::Open,
-            Slot::Halted(_) => Entry::Open,
-            Slot::Channel(_) => {
-                let refusal = Refusal::Taken;
-                shut(refusal)
-            }
-        },
-        Call::Ask(_, _) => match slot {
-            Slot::Empty => {
-                let refusal = Refusal::Empty;
-                shut(refusal)
-            }
-            Slot::Halted(_) => {
-                let refusal = Refusal::Halted;
-                shut(refusal)
-            }
-            Slot::Channel(_) => Entry::Open,
-        },
+    let admitted = Admitted::Start(settings, present);
+    match slot {
+        Slot::Empty => Entry::Open(admitted),
+        Slot::Halted(_) => Entry::Open(admitted),
+        Slot::Channel(_) => {
+            let refusal = Refusal::Taken;
+            shut(refusal)
+        }
     }
 }
 
-// The gate's answer of a call to one of the eight slots.
-fn of_room(slot: u8, used: usize, log: usize, replies: usize) -> Entry
-    ensures { λ r. ⌜ r ≡ firstOf (ofRoom (freeRows used log) replies) ⌝ }
+// A request is for a channel.
+fn request_of(slot: Slot, request: Request, givens: Givens) -> Entry
+    ensures { λ r. ⌜ r ≡ ofStanding slot (Call.Ask request givens) [] ⌝ }
+{
+    match slot {
+        Slot::Empty => {
+            let refusal = Refusal::Empty;
+            shut(refusal)
+        }
+        Slot::Halted(_) => {
+            let refusal = Refusal::Halted;
+            shut(refusal)
+        }
+        Slot::Channel(channel) => {
+            let admitted = Admitted::Ask(channel, request, givens);
+            Entry::Open(admitted)
+        }
+    }
+}
+
+// What a call finds in the slot.
+fn of_standing(slot: Slot, call: Call) -> Entry
+    ensures { λ r. ⌜ r ≡ ofStanding slot call [] ⌝ }
+{
+    match call {
+        Call::Start(settings, present) => start_of(slot, settings, present),
+        Call::Ask(request, givens) => request_of(slot, request, givens),
+    }
+}
+
+// What was found, if the gate of a call to one of the eight slots is open.
+fn of_room(found: Entry, slot: u8, used: usize, log: usize, replies: usize) -> Entry
+    ensures { λ r. ⌜ r ≡ firstOf (ofRoom (freeRows used log) replies) found ⌝ }
 {
     let gate = gate::room_of(slot, used, log, replies);
     match gate {
-        Gate::Open(_) => Entry::Open,
+        Gate::Open(_) => found,
         Gate::Shut(bar) => match bar {
             Bar::Slot => {
                 let refusal = Refusal::Slot;
@@ -111,34 +137,35 @@ fn temperature_fits(temperature: Temperature) -> bool
     }
 }
 
-// Seven places for a status; a temperature that is a number for an update and a status.
-fn of_given(call: Call, numbers: usize) -> Entry
-    ensures { λ r. ⌜ r ≡ firstOf (ofGiven call numbers) ⌝ }
+// What was found, if there are seven places for a status, and if the temperature that an update or
+// a status is given is a number.
+fn of_given(found: Entry, call: Call, numbers: usize) -> Entry
+    ensures { λ r. ⌜ r ≡ firstOf (ofGiven call numbers) found ⌝ }
 {
     match call {
-        Call::Start(_, _) => Entry::Open,
+        Call::Start(_, _) => found,
         Call::Ask(request, givens) => {
             let temperature = givens.temperature;
             let fits = temperature_fits(temperature);
             match request {
-                Request::Startup => Entry::Open,
+                Request::Startup => found,
                 Request::Update => {
                     if fits {
-                        return Entry::Open;
+                        return found;
                     }
                     let refusal = Refusal::Temperature;
                     shut(refusal)
                 }
-                Request::Reset => Entry::Open,
-                Request::Standby => Entry::Open,
-                Request::Settings(_) => Entry::Open,
+                Request::Reset => found,
+                Request::Standby => found,
+                Request::Settings(_) => found,
                 Request::Status(_) => {
                     if numbers < 7 {
                         let refusal = Refusal::Numbers;
                         return shut(refusal);
                     }
                     if fits {
-                        return Entry::Open;
+                        return found;
                     }
                     let refusal = Refusal::Temperature;
                     shut(refusal)
@@ -164,15 +191,15 @@ pub fn entry_of(
         let refusal = Refusal::Slot;
         return shut(refusal);
     }
-    let entry = of_standing(standing, call);
-    let Entry::Open = entry else {
-        return entry;
+    let found = of_standing(standing, call);
+    let Entry::Open(_) = found else {
+        return found;
     };
-    let entry = of_room(slot, used, log, replies);
-    let Entry::Open = entry else {
-        return entry;
+    let roomy = of_room(found, slot, used, log, replies);
+    let Entry::Open(_) = roomy else {
+        return roomy;
     };
-    of_given(call, numbers)
+    of_given(roomy, call, numbers)
 }
 
 // The number of a refusal.

@@ -1,2 +1,2 @@
--- What a call does to the slot that it names, and what it leaves.
+-- What a call does to a rack, and what it leaves.
 pub mod Calls

@@ -27,7 +27,7 @@ use Rattle.rf_call.specs.declared.Outcome.{Outcome}
 use Rattle.rf_call.specs.declared.Outcome.the-variants.{Live, Absent, Halted}
 use Rattle.rf_call.specs.declared.Slot.{Slot}
 use Rattle.rf_call.specs.declared.Slot.the-variants as S
-use Rattle.rf_call.specs.Outcome.{resetAnswer}
+use Rattle.rf_call.specs.Outcome.{slotOf, resetAnswer}
 use Rattle.rf_call.specs.Calls.{halting, afterEvent, answering, quietly, interlockReset, handleStartup, standing}
 use Rattle.rf_update.specs.Update.{updating}
 use Rattle.rf_changes.specs.Changes.{same, changesOf, stored, eventOf}
@@ -46,10 +46,17 @@ use Rattle.rf_start.specs.Start.{starting}
 use Rattle.rf_calls.specs.declared.Request.{Request}
 use Rattle.rf_calls.specs.declared.Request.the-variants.{Startup, Update, Reset, Standby, Settings, Status}
 use Rattle.rf_calls.specs.Requests.{requested, shownBy}
+use Rattle.rf_theorems.specs.Pins.{Levels, low}
+use Rattle.rf_theorems.proofs.Keeps.{Keeps, keeps-more}
+use Rattle.rf_theorems.proofs.Start.{Starts, keeps-starting}
+use Rattle.entry.specs.declared.Admitted.{Admitted}
+use Rattle.entry.specs.declared.Admitted.the-variants as In
 use Rattle.entry.specs.declared.Call.{Call}
-use Rattle.entry.specs.declared.Call.the-variants.{Start, Ask}
-use Rattle.rack_call.specs.Calls.{acts, shownTo}
-use Rattle.rack_theorems.specs.Demand1.{Transfers, LastFailed, EndsLow, IsStart}
+use Rattle.entry.specs.declared.Call.the-variants.{Ask}
+use Rattle.slot_call.specs.Step.{acts, shownTo}
+use Rattle.rack_theorems.specs.Demand1.{Transfers, LastFailed, EndsLow, SaysLow, IsStart}
+use Rattle.rack_theorems.proofs.Found.{Finds, found}
+use Rattle.rack_theorems.proofs.Seen.{any-event, keeps-ask}
 use Rattle.rack_theorems.proofs.Gives.{Gives, gives-any, gives-done, gives-cond, gives-bind, gives-mapped}
 use Rattle.rack_theorems.proofs.Writes.{Chipped, Wrote, wrote-changes}
 use Rattle.rack_theorems.proofs.Ends.{Ends, ends-after, ends-halting, ends-quietly, ends-follow, ends-updating, ends-status, ends-starting}
@@ -165,13 +172,6 @@ module _ (n : ℕ) (c : RfChannel) (s : ChannelSettings) (g : Givens) where
 
 -- ---- any call that is let in
 
--- a request finds a channel; a start looks at nothing that stands there
-abbrev pub Fits : Slot → Call → Type 0
-Fits s (Start settings present) = Unit
-Fits (S.Channel c) (Ask request givens) = Unit
-Fits S.Empty (Ask request givens) = ⊥
-Fits (S.Halted cause) (Ask request givens) = ⊥
-
 module _ (n : ℕ) where
   acted-requested : (c : RfChannel) (r : Request) (g : Givens) → Gives n (requested c r g) (Acted n (S.Channel c) (Ask r g))
   unfolding requested handleStartup standing
@@ -182,12 +182,45 @@ module _ (n : ℕ) where
   acted-requested c (Settings s) g = acted-settings n c s g
   acted-requested c (Status d) g = acted-ends n _ _ (gettingStatus c d g) (ends-status _ n c d g)
 
-  pub acts-gives : (s : Slot) (call : Call) → Fits s call → Gives n (acts s call) (Acted n s call)
+  pub acts-gives : (s : Slot) (call : Call) (b : Admitted) → Finds s call b → Gives n (acts b) (Acted n s call)
   unfolding acts IsStart
-  acts-gives s (Start settings present) f = acted-ends n s _ (starting settings present) (ends-starting _ n tt settings present)
-  acts-gives (S.Channel c) (Ask request givens) f = acted-requested c request givens
-  acts-gives S.Empty (Ask request givens) f = absurd f
-  acts-gives (S.Halted cause) (Ask request givens) f = absurd f
+  acts-gives = found (λ s call b. Gives n (acts b) (Acted n s call))
+      (λ s x settings present. acted-ends n s _ (starting settings present) (ends-starting _ n tt settings present))
+      acted-requested
+
+-- ---- no module found
+
+unfoldable Lowered : Levels → Outcome → Type 0
+Lowered q (Live c answer) = Unit
+Lowered q Absent = q ≡ low
+Lowered q (Halted cause) = Unit
+
+started : (s : ChannelSettings) (q : Levels) (x : Outcome) → Starts s q x → Lowered q x
+unfolding Starts Lowered
+started s q (Live c answer) h = tt
+started s q Absent h = h
+started s q (Halted cause) h = tt
+
+abbrev Found : Slot → Type 0
+Found S.Empty = ⊥
+Found (S.Halted cause) = Unit
+Found (S.Channel c) = Unit
+
+never-absent : (q : Levels) (x : Outcome) → Found (slotOf x) → Lowered q x
+unfolding Lowered
+never-absent q (Live c answer) h = tt
+never-absent q Absent h = absurd h
+never-absent q (Halted cause) h = tt
+
+lowered : (p : Levels) (b : Admitted) → Keeps p (acts b) Lowered
+unfolding acts
+lowered p (In.Start settings present) = keeps-more (keeps-starting p settings present) (started settings)
+lowered p (In.Ask c r g) = keeps-more (keeps-ask (λ q s. Found s) (λ q cause e. tt) g (any-event g) (λ q x s h. tt) p c r tt) never-absent
+
+-- a 13 leaves both pins low
+pub absent-low : (b : Admitted) (rs : List ℕ) (n taken : ℕ) → acts b rs n taken .ans ≡ Absent → SaysLow (acts b rs n taken .rows)
+unfolding Lowered
+absent-low b rs n taken e p = rw e at (lowered p b rs n taken .holds)
 
 -- ---- the caller's numbers
 
@@ -216,9 +249,7 @@ module _ (rs : List ℕ) (n taken : ℕ) (l : List Float) where
   shown-request c (Settings s) g h = refl
   shown-request c (Status d) g h = not-shown c g _ _ h
 
-  pub shown-stays : (s : Slot) (call : Call) → NotDone (acts s call rs n taken .ans) → shownTo s call rs n taken l ≡ l
+  pub shown-stays : (b : Admitted) → NotDone (acts b rs n taken .ans) → shownTo b rs n taken l ≡ l
   unfolding acts shownTo
-  shown-stays s (Start settings present) h = refl
-  shown-stays (S.Channel c) (Ask request givens) h = shown-request c request givens h
-  shown-stays S.Empty (Ask request givens) h = refl
-  shown-stays (S.Halted cause) (Ask request givens) h = refl
+  shown-stays (In.Start settings present) h = refl
+  shown-stays (In.Ask c request givens) h = shown-request c request givens h

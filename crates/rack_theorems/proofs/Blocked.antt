@@ -1,9 +1,9 @@
 -- Blocked is left by no event and keeps its first fault; a halt, and after it a start, alone end it. Assumes nothing.
 use Prim.Native.Nat.{ℕ}
-use native.Mathlib.Omega.{arith}
-use mathlib.Core.Path.{_≡_, refl, ap}
-use mathlib.Core.Bool.{Bool, cond}
-use lib.ListN.{length}
+use mathlib.Core.Path.{_≡_, refl}
+use mathlib.Core.Bool.{Bool}
+use mathlib.Core.List.{List, [], _∷_}
+use mathlib.Core.Logic.{_⊎_, inl, inr}
 use Rattle.rf_channel.specs.declared.ChannelFault.{ChannelFault}
 use Rattle.rf_channel.specs.declared.Events.{Events}
 use Rattle.rf_channel.specs.declared.Events.the-variants as E
@@ -18,15 +18,13 @@ use Rattle.rf_call.specs.Outcome.{slotOf}
 use Rattle.rf_theorems.specs.Pins.{Levels, low}
 use Rattle.rf_theorems.proofs.Keeps.{Keeps}
 use Rattle.rf_theorems.proofs.Rule.{Walked, Leads, keeps-carry}
+use Rattle.entry.specs.declared.Admitted.{Admitted}
 use Rattle.entry.specs.declared.Call.{Call}
-use Rattle.entry.specs.declared.Call.the-variants.{Start, Ask}
-use Rattle.entry.specs.declared.Entry.the-variants.{Open}
-use Rattle.entry.specs.Tests.{freeRows, entryOf, tests}
-use Rattle.entry.proofs.Laws.{passed}
 use Rattle.slots.specs.Slots.{slotAt}
-use Rattle.rack_call.specs.Calls.{acts}
-use Rattle.rack_theorems.specs.History.{StaysBlocked, IsBlocked, BlockedRule}
-use Rattle.rack_theorems.proofs.Seen.{keeps-ask, seen}
+use Rattle.slot_call.specs.Step.{acts}
+use Rattle.rack_theorems.specs.History.{Past, next, goesOn, Asked, StaysBlocked, IsBlocked, BlockedRule, IsHalted, HaltedBy, BlockedAlways}
+use Rattle.rack_theorems.proofs.Found.{NoChannel, Finds, found}
+use Rattle.rack_theorems.proofs.Seen.{keeps-ask, eight-kept, seen}
 
 module _ (f : ChannelFault) where
   abbrev InBlocked : Levels → RfChannel → Type 0
@@ -52,13 +50,48 @@ module _ (f : ChannelFault) where
   stays (S.Halted cause) h = tt
   stays (S.Channel c) h = h
 
+  no-start : (s : Slot) → NoChannel s → IsBlocked f s → ⊥
+  unfolding IsBlocked
+  no-start S.Empty x h = h
+  no-start (S.Halted cause) x h = h
+  no-start (S.Channel c) x h = x
+
   -- a call that is let in: a start is not
-  blocked-acts : (n : ℕ) (s : Slot) (call : Call) (free replies numbers : ℕ) → IsBlocked f s → entryOf n s call free replies numbers ≡ Open → Keeps low (acts s call) (λ q x. StaysBlocked f (slotOf x))
+  blocked-acts : (s : Slot) (call : Call) (b : Admitted) → Finds s call b → IsBlocked f s → Keeps low (acts b) (λ q x. StaysBlocked f (slotOf x))
   unfolding IsBlocked StaysBlocked
-  blocked-acts n S.Empty call free replies numbers h o = absurd h
-  blocked-acts n (S.Halted cause) call free replies numbers h o = absurd h
-  blocked-acts n (S.Channel c) (Start settings present) free replies numbers h o = absurd (let z : _≡_ {A = ℕ} 1 0 = ap (λ (b : Bool). cond b 1 0) (passed (tests n (S.Channel c) (Start settings present) free replies numbers) o .1 .1 .1 .0) in omega (arith, z))
-  blocked-acts n (S.Channel c) (Ask r g) free replies numbers h o = keeps-ask (λ q s. StaysBlocked f s) (λ q cause e. tt) g (blocked-event (g .tick) (g .watchdog)) (λ p x s i. i) low (S.Channel c) r h
+  blocked-acts = found (λ s call b. IsBlocked f s → Keeps low (acts b) (λ q x. StaysBlocked f (slotOf x)))
+      (λ s x settings present h. absurd (no-start s x h))
+      (λ c r g h. keeps-ask (λ q s. StaysBlocked f s) (λ q cause e. tt) g (blocked-event (g .tick) (g .watchdog)) (λ p x s i. i) low c r h)
 
 pub blocked-rule : BlockedRule
-blocked-rule f rack eight n inside h a = seen rack eight n inside (λ q s. StaysBlocked f s) low a (stays f (slotAt rack n) h) (blocked-acts f n (slotAt rack n) (a .call) (freeRows (a .used) (length (a .log))) (length (a .replies)) (length (a .numbers)) h)
+blocked-rule f rack eight n inside h a = seen rack eight n inside (λ q s. StaysBlocked f s) low a (stays f (slotAt rack n) h) (λ b o. blocked-acts f (slotAt rack n) (a .call) b o h)
+
+-- ---- any calls
+
+module _ (f : ChannelFault) where
+  or-halted : (s : Slot) → StaysBlocked f s → IsBlocked f s ⊎ IsHalted s
+  unfolding StaysBlocked IsBlocked IsHalted
+  or-halted S.Empty h = absurd h
+  or-halted (S.Halted cause) h = inr tt
+  or-halted (S.Channel c) h = inl h
+
+-- a slot that is blocked after the first of some calls, or halted by it
+module _ (f : ChannelFault) (n : ℕ) (past : Past) (a : Asked) (more : List Asked) where
+  abbrev Still : Type 0
+  Still = IsBlocked f (slotAt (goesOn past (a ∷ more) .rack) n) ⊎ HaltedBy n past (a ∷ more)
+
+  later : IsBlocked f (slotAt (goesOn (next past a) more .rack) n) ⊎ HaltedBy n (next past a) more → Still
+  unfolding goesOn HaltedBy
+  later (inl b) = inl b
+  later (inr k) = inr (inr k)
+
+  first : IsBlocked f (slotAt (next past a .rack) n) ⊎ IsHalted (slotAt (next past a .rack) n) → (IsBlocked f (slotAt (next past a .rack) n) → Still) → Still
+  unfolding HaltedBy
+  first (inl b) k = k b
+  first (inr h) k = inr (inl h)
+
+pub blocked-always : BlockedAlways
+unfolding goesOn
+blocked-always f past eight n inside h [] = inl h
+blocked-always f past eight n inside h (a ∷ more) =
+    first f n past a more (or-halted f (slotAt (next past a .rack) n) (blocked-rule f (past .rack) eight n inside h a)) (λ b. later f n past a more (blocked-always f (next past a) (eight-kept (past .rack) a eight) n inside b more))

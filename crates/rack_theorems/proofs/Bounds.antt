@@ -1,10 +1,13 @@
--- How many rows each piece of work may add: an event 3, a halt 2, a request 12, a start 20. So no call adds more than 20 (`acts-at-most`). Assumes nothing.
+-- How many rows each piece of work may add: an event 3, a halt 2, a request 7, a start 20 (`rows-at-most`). So no call adds more than 20 (`acts-at-most`). Assumes nothing.
 use Prim.Native.Nat.{ℕ, _+_, _≤_}
-use mathlib.Core.Bool.{Bool}
+use native.Mathlib.Omega.{arith}
+use mathlib.Core.Bool.{Bool, true, false, cond}
+use mathlib.Core.Path.{_≡_, refl}
 use lib.Dec.{lit≤}
 use lib.Ieee.{Float, lt}
+use lib.ListN.{length}
 use Rattle.bus.specs.declared.Note.{Note}
-use Rattle.bus.specs.Run.{Run, done}
+use Rattle.bus.specs.Run.{Run, done, bind}
 use Rattle.ads7924.specs.declared.Four.{Four}
 use Rattle.ads7924.specs.declared.Readings.{Readings}
 use Rattle.ads7924.specs.declared.Readings.the-variants.{Volts, Bus as AllUnread}
@@ -16,6 +19,8 @@ use Rattle.rf_channel.specs.declared.Events.{Events}
 use Rattle.rf_channel.specs.declared.Plan.{Plan}
 use Rattle.rf_channel.specs.declared.Plan.the-variants.{NoTransition, GuardFalse, Go}
 use Rattle.rf_channel.specs.declared.RfChannel.{RfChannel}
+use Rattle.rf_channel.specs.declared.States.{States}
+use Rattle.rf_channel.specs.declared.States.the-variants as St
 use Rattle.rf_channel.specs.Guards.{lowest}
 use Rattle.rf_plan.specs.Table.{table}
 use Rattle.rf_plan.specs.Plan.{planned}
@@ -34,8 +39,6 @@ use Rattle.rf_call.specs.declared.Answer.{Answer}
 use Rattle.rf_call.specs.declared.Givens.{Givens}
 use Rattle.rf_call.specs.declared.Outcome.{Outcome}
 use Rattle.rf_call.specs.declared.Outcome.the-variants.{Live}
-use Rattle.rf_call.specs.declared.Slot.{Slot}
-use Rattle.rf_call.specs.declared.Slot.the-variants as S
 use Rattle.rf_call.specs.declared.Temperature.{Temperature}
 use Rattle.rf_call.specs.declared.Temperature.the-variants.{Celsius, Failed as Unread}
 use Rattle.rf_call.specs.Calls.{halting, orHalt, afterEvent, answering, quietly, interlockReset, handleStartup, standing}
@@ -43,10 +46,10 @@ use Rattle.rf_tests.specs.declared.Check.{Check}
 use Rattle.rf_tests.specs.declared.Check.the-variants.{Fine, Found, Failed}
 use Rattle.rf_tests.specs.declared.Overdrive.{Overdrive}
 use Rattle.rf_tests.specs.declared.Overdrive.the-variants.{Quiet, Source}
-use Rattle.rf_tests.specs.Tests.{checkFaults, overdriveSource, isEnabled}
+use Rattle.rf_tests.specs.Tests.{checkFaults, overdriveSource, isEnabled, isBlocked}
 use Rattle.rf_update.specs.declared.Stage.{Stage}
 use Rattle.rf_update.specs.declared.Stage.the-variants.{Going, Stopped}
-use Rattle.rf_update.specs.Update.{raising, onCheck, faultStage, onOverdrive, onPower, tripStage, afterStage, finishing, updating}
+use Rattle.rf_update.specs.Update.{stageOf, raising, onCheck, faultStage, onOverdrive, onPower, tripStage, afterStage, finishing, updating}
 use Rattle.rf_changes.specs.declared.Changes.{Changes}
 use Rattle.rf_changes.specs.declared.Follow.{Follow}
 use Rattle.rf_changes.specs.declared.Follow.the-variants.{Nothing, Raise}
@@ -69,9 +72,19 @@ use Rattle.rf_start.specs.Start.{beginning, monitor, preparing, onPresent, modu
 use Rattle.rf_calls.specs.declared.Request.{Request}
 use Rattle.rf_calls.specs.declared.Request.the-variants.{Startup, Update, Reset, Standby, Settings, Status}
 use Rattle.rf_calls.specs.Requests.{requested}
+use Rattle.rf_call.specs.declared.Slot.{Slot}
+use Rattle.entry.specs.declared.Admitted.{Admitted}
+use Rattle.entry.specs.declared.Admitted.the-variants.{Start, Ask}
 use Rattle.entry.specs.declared.Call.{Call}
-use Rattle.entry.specs.declared.Call.the-variants.{Start, Ask}
-use Rattle.rack_call.specs.Calls.{acts}
+use Rattle.entry.specs.declared.Entry.{Entry}
+use Rattle.entry.specs.declared.Entry.the-variants.{Open, Shut}
+use Rattle.slots.specs.Slots.{slotAt}
+use Rattle.slot_call.specs.Step.{acts, through, stepped}
+use Rattle.rack_call.specs.Calls.{called}
+use Rattle.rack_theorems.specs.History.{mostRows, RowsAtMost}
+use Rattle.rack_theorems.proofs.Found.{Finds, found}
+use Rattle.rack_theorems.proofs.Seen.{entry, let-in}
+use Rattle.rack_theorems.proofs.Costs.{Within, within-done, within-most, within-less, most-within, within-bind, within-mapped, step, within-event, within-update, blocking, within-fault}
 use Rattle.rack_theorems.proofs.AtMost.{AtMost, most-done, most-less, most-bind, most-mapped, most-note, most-cond, most-mcp3221, most-dac7571, most-ad5627-opening, most-ad5627, most-ads7924-opening, most-ads7924, most-ads7924-all, most-ads7924-alarm}
 
 -- ---- as a channel uses the chips
@@ -147,18 +160,18 @@ most-halting : (cause : Cause) → AtMost 2 (halting cause)
 unfolding halting
 most-halting cause = most-bind 1 1 _ _ (most-note _) (λ u. most-bind 1 0 _ _ (most-note _) (λ w. most-done 0 _))
 
--- ---- the calls that are one event
+-- ---- the calls that are one event: three rows, or two and a halt
 
-after-event : (k : RfChannel → Told → Answer) (x : Step) → AtMost 2 (afterEvent (λ c told. done (Live c (k c told))) x)
+after-event : (a b n : ℕ) → a ≤ n → b + 2 ≤ n → (k : RfChannel → Told → Answer) (x : Step) → Within (step a b x) (λ o. n) (afterEvent (λ c told. done (Live c (k c told))) x)
 unfolding afterEvent
-after-event k (Went c told) = most-done 2 _
-after-event k (Stops cause) = most-halting cause
+after-event a b n h l k (Went c told) = within-done a (λ o. n) _ h
+after-event a b n h l k (Stops cause) = within-most b 2 (λ o. n) _ (λ o. l) (most-halting cause)
 
-most-answering : (answer : Told → Answer) (e : Events) (c : RfChannel) (g : Givens) → AtMost 5 (answering answer e c g)
+most-answering : (answer : Told → Answer) (e : Events) (c : RfChannel) (g : Givens) → AtMost 4 (answering answer e c g)
 unfolding answering
-most-answering answer e c g = most-bind 3 2 _ _ (most-event c e (g .tick) (g .watchdog)) (after-event (λ x told. answer told))
+most-answering answer e c g = most-within 4 _ (within-bind 0 (step 3 2) (λ o. 4) _ _ (within-event c e (g .tick) (g .watchdog)) (after-event 3 2 4 (lit≤ tt) (lit≤ tt) (λ x told. answer told)))
 
-most-quietly : (e : Events) (c : RfChannel) (g : Givens) → AtMost 5 (quietly e c g)
+most-quietly : (e : Events) (c : RfChannel) (g : Givens) → AtMost 4 (quietly e c g)
 unfolding quietly
 most-quietly e c g = most-answering _ e c g
 
@@ -168,11 +181,20 @@ most-raising : (c : RfChannel) (e : Events) (g : Givens) → AtMost 3 (raising c
 unfolding raising
 most-raising c e g = most-mapped 3 _ _ (most-event c e (g .tick) (g .watchdog))
 
-on-check : (c : RfChannel) (g : Givens) (x : Check) → AtMost 3 (onCheck c g x)
-unfolding onCheck
-on-check c g Fine = most-done 3 _
-on-check c g (Found fault) = most-raising c _ g
-on-check c g Failed = most-done 3 _
+-- a fault that is found leads to Blocked with 3 rows, and otherwise there is none before the trip test
+abbrev faulted : Stage → ℕ
+faulted (Going c) = cond (isBlocked (c .state)) 3 0
+faulted (Stopped cause) = 2
+
+staged : (x : Step) → blocking x ≤ faulted (stageOf x)
+staged (Went c told) = omega arith
+staged (Stops cause) = omega arith
+
+on-check : (c : RfChannel) (g : Givens) (x : Check) → Within 0 faulted (onCheck c g x)
+unfolding onCheck raising
+on-check c g Fine = within-done 0 faulted _ (omega arith)
+on-check c g (Found fault) = within-mapped 0 faulted stageOf _ (within-less 0 blocking _ _ staged (within-fault c fault (g .tick) (g .watchdog)))
+on-check c g Failed = within-done 0 faulted _ (omega arith)
 
 on-overdrive : (c : RfChannel) (g : Givens) (x : Overdrive) → AtMost 3 (onOverdrive c g x)
 unfolding onOverdrive
@@ -193,13 +215,33 @@ unfolding afterStage
 after-stage k h f m (Going c) = m c
 after-stage k h f m (Stopped cause) = most-less 2 k _ h (most-halting cause)
 
-most-finishing : (g : Givens) (c : RfChannel) → AtMost 5 (finishing g c)
+most-finishing : (g : Givens) (c : RfChannel) → AtMost 3 (finishing g c)
 unfolding finishing
-most-finishing g c = most-bind 3 2 _ _ (most-event c _ (g .tick) (g .watchdog)) (after-event _)
+most-finishing g c = most-within 3 _ (within-bind 0 (step 3 1) (λ o. 3) _ _ (within-update c (g .tick) (g .watchdog)) (after-event 3 1 3 (lit≤ tt) (lit≤ tt) _))
 
-most-updating : (c : RfChannel) (g : Givens) → AtMost 12 (updating c g)
+not-enabled : (s : States) → isBlocked s ≡ true → isEnabled s ≡ false
+not-enabled (St.Blocked f) h = refl
+not-enabled St.Off h = refl
+not-enabled (St.Powerup d) h = refl
+not-enabled St.Powered h = refl
+not-enabled St.Enabled h = absurd (let z : _≡_ {A = ℕ} 0 1 = cc in omega arith)
+not-enabled (St.Tripped i) h = refl
+not-enabled (St.Powerdown d) h = refl
+
+-- the trip test and the Update event: with 3 rows before them where the channel is blocked, and then no trip test
+on-going : (c : RfChannel) (g : Givens) (b : Bool) → isBlocked (c .state) ≡ b → Within (cond b 3 0) (λ o. 7) (bind (tripStage c g) (afterStage (finishing g)))
+unfolding tripStage
+on-going c g true h = rw (not-enabled (c .state) h) (within-bind 3 (λ x. 3) (λ o. 7) _ _ (within-done 3 (λ x. 3) _ (lit≤ tt)) (λ x. within-most 3 3 (λ o. 7) _ (λ o. lit≤ tt) (after-stage 3 (lit≤ tt) _ (most-finishing g) x)))
+on-going c g false h = within-most 0 7 (λ o. 7) _ (λ o. lit≤ tt) (most-bind 4 3 _ _ (most-trip c g) (after-stage 3 (lit≤ tt) _ (most-finishing g)))
+
+on-stage : (g : Givens) (x : Stage) → Within (faulted x) (λ o. 7) (afterStage (λ c. bind (tripStage c g) (afterStage (finishing g))) x)
+unfolding afterStage
+on-stage g (Going c) = on-going c g (isBlocked (c .state)) refl
+on-stage g (Stopped cause) = within-most 2 2 (λ o. 7) _ (λ o. lit≤ tt) (most-halting cause)
+
+most-updating : (c : RfChannel) (g : Givens) → AtMost 7 (updating c g)
 unfolding updating faultStage
-most-updating c g = most-bind 3 9 _ _ (on-check c g (checkFaults g)) (after-stage 9 (lit≤ tt) _ (λ x. most-bind 4 5 _ _ (most-trip x g) (after-stage 5 (lit≤ tt) _ (most-finishing g))))
+most-updating c g = most-within 7 _ (within-bind 0 faulted (λ o. 7) _ _ (on-check c g (checkFaults g)) (on-stage g))
 
 -- ---- settings
 
@@ -216,9 +258,9 @@ most-changes due s =
     (most-bind 1 1 _ _ (most-cond 1 (due .reflected) _ _ (most-mapped 1 _ _ (most-reflected s _)) (most-done 1 _))
     (on-fine 1 _ (most-cond 1 (due .bias) _ _ (most-mapped 1 _ _ (most-bias s)) (most-done 1 _)))))
 
-on-follow : (c : RfChannel) (g : Givens) (x : Follow) → AtMost 5 (onFollow c g x)
+on-follow : (c : RfChannel) (g : Givens) (x : Follow) → AtMost 4 (onFollow c g x)
 unfolding onFollow
-on-follow c g Nothing = most-done 5 _
+on-follow c g Nothing = most-done 4 _
 on-follow c g (Raise e) = most-quietly e c g
 
 on-wrong : (c : RfChannel) (wrong : Wrong) → AtMost 2 (refusing c wrong)
@@ -227,14 +269,14 @@ on-wrong c Range = most-done 2 _
 on-wrong c Chip = most-done 2 _
 on-wrong c Bus = most-halting _
 
-on-applied : (wanted : ChannelState) (g : Givens) (x : Applied) → AtMost 5 (onApplied wanted g x)
+on-applied : (wanted : ChannelState) (g : Givens) (x : Applied) → AtMost 4 (onApplied wanted g x)
 unfolding onApplied following
 on-applied wanted g (Ok c) = on-follow c g (eventOf (c .state) wanted)
-on-applied wanted g (Err c wrong) = most-less 2 5 _ (lit≤ tt) (on-wrong c wrong)
+on-applied wanted g (Err c wrong) = most-less 2 4 _ (lit≤ tt) (on-wrong c wrong)
 
-most-settings : (c : RfChannel) (s : ChannelSettings) (g : Givens) → AtMost 8 (handleSettings c s g)
+most-settings : (c : RfChannel) (s : ChannelSettings) (g : Givens) → AtMost 7 (handleSettings c s g)
 unfolding handleSettings applySettings
-most-settings c s g = most-bind 3 5 _ _ (most-cond 3 (same (c .settings) s) _ _ (most-done 3 _) (most-mapped 3 _ _ (most-changes (changesOf (c .settings) s) s))) (on-applied (s .state) g)
+most-settings c s g = most-bind 3 4 _ _ (most-cond 3 (same (c .settings) s) _ _ (most-done 3 _) (most-mapped 3 _ _ (most-changes (changesOf (c .settings) s) s))) (on-applied (s .state) g)
 
 -- ---- the status
 
@@ -264,14 +306,14 @@ most-status c d g = most-bind 5 2 _ _ (most-bind 4 1 _ _ most-ads7924-all (on-vo
 
 -- ---- any request
 
-pub requested-at-most : (c : RfChannel) (r : Request) (g : Givens) → AtMost 12 (requested c r g)
+pub requested-at-most : (c : RfChannel) (r : Request) (g : Givens) → AtMost 7 (requested c r g)
 unfolding requested handleStartup interlockReset standing
-requested-at-most c Startup g = most-less 5 12 _ (lit≤ tt) (most-quietly _ c g)
+requested-at-most c Startup g = most-less 4 7 _ (lit≤ tt) (most-quietly _ c g)
 requested-at-most c Update g = most-updating c g
-requested-at-most c Reset g = most-less 5 12 _ (lit≤ tt) (most-answering _ _ c g)
-requested-at-most c Standby g = most-less 5 12 _ (lit≤ tt) (most-quietly _ c g)
-requested-at-most c (Settings s) g = most-less 8 12 _ (lit≤ tt) (most-settings c s g)
-requested-at-most c (Status d) g = most-less 7 12 _ (lit≤ tt) (most-status c d g)
+requested-at-most c Reset g = most-less 4 7 _ (lit≤ tt) (most-answering _ _ c g)
+requested-at-most c Standby g = most-less 4 7 _ (lit≤ tt) (most-quietly _ c g)
+requested-at-most c (Settings s) g = most-settings c s g
+requested-at-most c (Status d) g = most-status c d g
 
 -- ---- the start
 
@@ -316,9 +358,22 @@ starting-at-most s present = most-bind 13 7 _ _ most-preparing (or-halt 7 (lit�
 
 -- ---- any call
 
-pub acts-at-most : (s : Slot) (call : Call) → AtMost 20 (acts s call)
+pub acts-at-most : (b : Admitted) → AtMost 20 (acts b)
 unfolding acts
-acts-at-most s (Start settings present) = starting-at-most settings present
-acts-at-most (S.Channel c) (Ask request givens) = most-less 12 20 _ (lit≤ tt) (requested-at-most c request givens)
-acts-at-most S.Empty (Ask request givens) = most-done 20 _
-acts-at-most (S.Halted cause) (Ask request givens) = most-done 20 _
+acts-at-most (Start settings present) = starting-at-most settings present
+acts-at-most (Ask c request givens) = most-less 7 20 _ (lit≤ tt) (requested-at-most c request givens)
+
+bound : (s : Slot) (call : Call) (b : Admitted) → Finds s call b → AtMost (mostRows call) (acts b)
+unfolding acts
+bound = found (λ s call b. AtMost (mostRows call) (acts b)) (λ s x settings present. starting-at-most settings present) requested-at-most
+
+pub rows-at-most : RowsAtMost
+unfolding called stepped
+rows-at-most rack a = go (entry (slotAt rack (a .slot)) (a .slot) a) refl
+  where
+    of-call : (b : Admitted) → Finds (slotAt rack (a .slot)) (a .call) b → AtMost (mostRows (a .call)) (acts b)
+    of-call = bound (slotAt rack (a .slot)) (a .call)
+
+    go : (e : Entry) → entry (slotAt rack (a .slot)) (a .slot) a ≡ e → length (through e (a .slot) (slotAt rack (a .slot)) (a .replies) (a .numbers) .rows) ≤ mostRows (a .call)
+    go (Shut refusal) o = omega arith
+    go (Open b) o = of-call b (let-in (slotAt rack (a .slot)) (a .slot) a b o .1) (a .replies) (a .slot) 0 .rows

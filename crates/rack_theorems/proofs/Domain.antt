@@ -1,7 +1,7 @@
 -- On the domain the clock does not wrap: a deadline is never more than 500 ms away from the last tick, and then every line of the table says the same with a plain clock. Assumes nothing.
 use Prim.Native.Nat.{ℕ, _+_ as plus, _^_, _≤_, _<_}
 use native.Mathlib.Omega.{arith}
-use mathlib.Core.Path.{_≡_, refl}
+use mathlib.Core.Path.{_≡_, refl, subst}
 use mathlib.Core.Bool.{Bool, true, false, cond, _&&_}
 use mathlib.Core.List.{List, [], _∷_}
 use lib.Dec.{leb, ltb, eqb}
@@ -22,13 +22,20 @@ use Rattle.rf_call.specs.Outcome.{slotOf}
 use Rattle.rf_theorems.specs.Pins.{Levels, low}
 use Rattle.rf_theorems.proofs.Keeps.{Keeps}
 use Rattle.rf_theorems.proofs.Rule.{Walked, Leads, keeps-carry}
+use Rattle.entry.specs.declared.Admitted.{Admitted}
 use Rattle.entry.specs.declared.Call.{Call}
 use Rattle.entry.specs.declared.Call.the-variants.{Start, Ask}
+use Rattle.entry.specs.declared.Refusal.{Refusal}
+use Rattle.slots.specs.declared.Verdict.{Verdict}
+use Rattle.slots.specs.declared.Verdict.the-variants.{Refused, Answered, Absent, Halted}
 use Rattle.slots.specs.Slots.{emptyRack, slotAt}
-use Rattle.rack_call.specs.Calls.{acts}
-use Rattle.rack_theorems.specs.History.{Asked, Past, next, goesOn, history, Eight}
-use Rattle.rack_theorems.specs.Domain.{tickBy, InDomain, lastTick, passes, leads, spoken, Sane, SpeaksPlainly, PlainClock, LeadsNear, PlainEvents}
+use Rattle.slot_call.specs.Step.{acts}
+use Rattle.rack_theorems.specs.History.{Asked, on, Past, next, goesOn, history, Eight}
+use Rattle.rack_theorems.specs.Demand1.{Unchanged, LeftBy}
+use Rattle.rack_theorems.specs.Domain.{tickBy, tickAfter, Steady, TickFits, InDomain, lastTick, Ordered, Wide, passes, leads, spoken, Sane, SpeaksPlainly, PlainClock, LeadsNear, PlainEvents}
+use Rattle.rack_theorems.proofs.Found.{Finds, found}
 use Rattle.rack_theorems.proofs.Seen.{keeps-start, keeps-ask, eight-kept, seen, first-empty}
+use Rattle.rack_theorems.proofs.Demand1.{right}
 
 -- ---- a near deadline: the table with a plain clock
 
@@ -116,10 +123,11 @@ near-leads p c tick (Go action state) l = l
 pub plain-events : PlainEvents
 plain-events c e tick watchdog near below = (lines-plain c e tick watchdog near below table, near-leads low c tick (planned table c e tick watchdog) (near-plan tick low c e watchdog table))
 
-sane-acts : (last : ℕ) (p : Levels) (s : Slot) (call : Call) → Sane (tickBy call last) s → Keeps p (acts s call) (λ q x. Sane (tickBy call last) (slotOf x))
+sane-acts : (last : ℕ) (p : Levels) (s : Slot) (call : Call) (b : Admitted) → Finds s call b → Sane (tickBy call last) s → Keeps p (acts b) (λ q x. Sane (tickBy call last) (slotOf x))
 unfolding Sane
-sane-acts last p s (Start settings present) h = keeps-start (λ q t. Sane last t) (λ q cause e. tt) settings (λ q. tt) (omega arith) p s present
-sane-acts last p s (Ask r g) h = keeps-ask (λ q t. Sane (g .tick) t) (λ q cause e. tt) g (near-event (g .tick) (g .watchdog)) (λ q c t i. i) p s r h
+sane-acts last p = found (λ s call b. Sane (tickBy call last) s → Keeps p (acts b) (λ q x. Sane (tickBy call last) (slotOf x)))
+    (λ s x settings present h. keeps-start (λ q t. Sane last t) (λ q cause e. tt) settings (λ q. tt) (omega arith) p present)
+    (λ c r g h. keeps-ask (λ q t. Sane (g .tick) t) (λ q cause e. tt) g (near-event (g .tick) (g .watchdog)) (λ q c t i. i) p c r h)
 
 -- ---- one call after the other
 
@@ -130,16 +138,59 @@ sane-later last tick S.Empty l h = tt
 sane-later last tick (S.Halted cause) l h = tt
 sane-later last tick (S.Channel c) l h = omega (arith, l, h)
 
+module _ (n : ℕ) (inside : n < 8) (past : Past) (last : ℕ) (a : Asked) (eight : Eight (past .rack)) (h : Sane last (slotAt (past .rack) n)) where
+  -- a call that is not left out
+  sane-heard : Steady (a .call) last → Sane (tickBy (a .call) last) (slotAt (next past a .rack) n)
+  sane-heard d =
+      let tick = tickBy (a .call) last in
+      let now = sane-later last tick (slotAt (past .rack) n) (d .0) h in
+      seen (past .rack) eight n inside (λ q s. Sane tick s) low a now (λ b o. sane-acts last low (slotAt (past .rack) n) (a .call) b o now)
+
+  -- a call that is refused leaves the rack as it was
+  refused : (refusal : Refusal) → on (past .rack) a .verdict ≡ Refused refusal → on (past .rack) a .rack ≡ past .rack
+  unfolding LeftBy
+  refused refusal e = let u : Unchanged (past .rack) a (on (past .rack) a) = subst (LeftBy (past .rack) a (on (past .rack) a)) e (right (past .rack) a eight .answer) in u .rack-stays
+
+  sane-call : (v : Verdict) → on (past .rack) a .verdict ≡ v → TickFits v (a .call) last → Sane (tickAfter v (a .call) last) (slotAt (next past a .rack) n)
+  unfolding TickFits
+  sane-call (Refused refusal) e d = rw (refused refusal e) h
+  sane-call (Answered answer) e d = sane-heard d
+  sane-call Absent e d = sane-heard d
+  sane-call (Halted cause) e d = sane-heard d
+
 module _ (n : ℕ) (inside : n < 8) where
-  sane-on : (past : Past) (last : ℕ) (calls : List Asked) → Eight (past .rack) → InDomain past last calls → Sane last (slotAt (past .rack) n) → Sane (lastTick last calls) (slotAt (goesOn past calls .rack) n)
+  sane-on : (past : Past) (last : ℕ) (calls : List Asked) → Eight (past .rack) → InDomain past last calls → Sane last (slotAt (past .rack) n) → Sane (lastTick past last calls) (slotAt (goesOn past calls .rack) n)
   unfolding goesOn lastTick InDomain
   sane-on past last [] eight d h = h
   sane-on past last (a ∷ more) eight d h =
-      let tick = tickBy (a .call) last in
-      let now = sane-later last tick (slotAt (past .rack) n) (d .1) h in
-      sane-on (next past a) tick more (eight-kept (past .rack) a eight) (d .3)
-      (seen (past .rack) eight n inside (λ q s. Sane tick s) low a now (λ o. sane-acts last low (slotAt (past .rack) n) (a .call) now))
+      let v = on (past .rack) a .verdict in
+      sane-on (next past a) (tickAfter v (a .call) last) more (eight-kept (past .rack) a eight) (d .1) (sane-call n inside past last a eight h v refl (d .0))
 
 pub plain-clock : PlainClock
 unfolding history goesOn Sane
-plain-clock calls d n inside = speaks (lastTick 0 calls) (slotAt (history calls .rack) n) (sane-on n inside (record { rack = emptyRack; rows = [] }) 0 calls refl d (rw (first-empty n inside) tt))
+plain-clock calls d n inside = speaks (lastTick (history []) 0 calls) (slotAt (history calls .rack) n) (sane-on n inside (record { rack = emptyRack; rows = [] }) 0 calls refl d (rw (first-empty n inside) tt))
+
+-- ---- the domain is wide
+
+-- a steady call fits, whatever it is answered, and the tick is then the old one or its own
+heard : (call : Call) (last bound : ℕ) → last ≤ bound → Steady call bound → Steady call last × (tickBy call last ≤ tickBy call bound)
+heard (Start settings present) last bound l s = ((omega arith, omega (arith, l, s .1)), l)
+heard (Ask request givens) last bound l s = ((omega (arith, l, s .0), s .1), omega arith)
+
+fits : (v : Verdict) (call : Call) (last bound : ℕ) → last ≤ bound → Steady call bound → TickFits v call last × (tickAfter v call last ≤ tickBy call bound)
+unfolding TickFits
+fits (Refused refusal) call last bound l s = (tt, omega (arith, l, s .0))
+fits (Answered answer) call last bound l s = heard call last bound l s
+fits Absent call last bound l s = heard call last bound l s
+fits (Halted cause) call last bound l s = heard call last bound l s
+
+wide-from : (past : Past) (last bound : ℕ) (calls : List Asked) → last ≤ bound → Ordered bound calls → InDomain past last calls
+unfolding InDomain Ordered
+wide-from past last bound [] l o = tt
+wide-from past last bound (a ∷ more) l o =
+    let v = on (past .rack) a .verdict in
+    let f = fits v (a .call) last bound l (o .0) in
+    (f .0, wide-from (next past a) (tickAfter v (a .call) last) (tickBy (a .call) bound) more (f .1) (o .1))
+
+pub wide : Wide
+wide calls o = wide-from (history []) 0 0 calls (omega arith) o

@@ -7,18 +7,20 @@ use Rattle.rf_call.specs.Outcome.{slotOf}
 use Rattle.rf_theorems.specs.Pins.{Levels, levelsAfter}
 use Rattle.rf_theorems.proofs.Keeps.{Keeps, levels-append}
 use Rattle.rf_theorems.proofs.Rule.{stand-event}
+use Rattle.entry.specs.declared.Admitted.{Admitted}
 use Rattle.entry.specs.declared.Call.{Call}
-use Rattle.entry.specs.declared.Call.the-variants.{Start, Ask}
 use Rattle.slots.specs.Slots.{emptyRack, slotAt}
-use Rattle.rack_call.specs.Calls.{acts}
+use Rattle.slot_call.specs.Step.{acts}
 use Rattle.rack_theorems.specs.History.{Asked, on, Past, next, goesOn, history, ofSlot, PinsStand, PinRule, Eight}
+use Rattle.rack_theorems.proofs.Found.{Finds, found}
 use Rattle.rack_theorems.proofs.Seen.{keeps-start, keeps-ask, of-append, eight-kept, seen, first-empty}
 
 -- a call that is let in
-stand-acts : (p : Levels) (s : Slot) (call : Call) → PinsStand p s → Keeps p (acts s call) (λ q x. PinsStand q (slotOf x))
+stand-acts : (p : Levels) (s : Slot) (call : Call) (b : Admitted) → Finds s call b → PinsStand p s → Keeps p (acts b) (λ q x. PinsStand q (slotOf x))
 unfolding PinsStand
-stand-acts p s (Start settings present) h = keeps-start PinsStand (λ q cause e. e) settings (λ q. tt) (refl, refl) p s present
-stand-acts p s (Ask r g) h = keeps-ask PinsStand (λ q cause e. e) g (λ q c e i. stand-event q c e (g .tick) (g .watchdog) i) (λ q c t i. i) p s r h
+stand-acts p = found (λ s call b. PinsStand p s → Keeps p (acts b) (λ q x. PinsStand q (slotOf x)))
+    (λ s x settings present h. keeps-start PinsStand (λ q cause e. e) settings (λ q. tt) (refl, refl) p present)
+    (λ c r g h. keeps-ask PinsStand (λ q cause e. e) g (λ q c e i. stand-event q c e (g .tick) (g .watchdog) i) (λ q c t i. i) p c r h)
 
 module _ (p : Levels) (n : ℕ) (inside : n < 8) where
   -- one call after the other
@@ -30,7 +32,7 @@ module _ (p : Levels) (n : ℕ) (inside : n < 8) where
       let q = levelsAfter p (ofSlot n (past .rows)) in
       stands-on (next past a) more (eight-kept (past .rack) a eight)
       (rw (of-append n (past .rows) (on (past .rack) a .rows), levels-append p (ofSlot n (past .rows)) (ofSlot n (on (past .rack) a .rows)))
-      (seen (past .rack) eight n inside PinsStand q a h (λ o. stand-acts q (slotAt (past .rack) n) (a .call) h)))
+      (seen (past .rack) eight n inside PinsStand q a h (λ b o. stand-acts q (slotAt (past .rack) n) (a .call) b o h)))
 
 -- After any calls, in every slot: a channel holds the levels that the rows of the slot say, these are those of its state, and a halted slot has both low.
 pub pin-rule : PinRule

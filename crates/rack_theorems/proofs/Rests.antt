@@ -2,22 +2,15 @@
 use Prim.Native.Nat.{ℕ}
 use mathlib.Core.Path.{_≡_, refl, sym, _∙_}
 use mathlib.Core.Bool.{Bool, true, false}
-use mathlib.Core.List.{List}
 use borrow.Author.Tests.{leb-false}
 use lib.Dec.{leb}
-use lib.ListN.{length}
-use lib.Ieee.{Float}
 use Rattle.rf_call.specs.declared.Slot.{Slot}
-use Rattle.entry.specs.declared.Call.{Call}
-use Rattle.entry.specs.declared.Entry.{Entry}
-use Rattle.entry.specs.declared.Entry.the-variants.{Open, Shut}
-use Rattle.entry.specs.Tests.{entryOf}
 use Rattle.slots.specs.declared.Rack.{Rack}
 use Rattle.slots.specs.Slots.{slotAt, putAt}
 use Rattle.slots.proofs.Laws.{put-here}
-use Rattle.rack_call.specs.Calls.{through, called}
+use Rattle.rack_call.specs.Calls.{called}
 use Rattle.rack_theorems.specs.History.{Eight}
-use Rattle.rack_theorems.specs.Rests.{Same, RestsOnSlot}
+use Rattle.rack_theorems.specs.Rests.{RestsOnSlot}
 
 module _ (rack rack′ : Rack) (n : ℕ) (eight : Eight rack) (eight′ : Eight rack′) where
   -- the same put into the same slot of both; above the eighth nothing stands in either
@@ -26,13 +19,9 @@ module _ (rack rack′ : Rack) (n : ℕ) (eight : Eight rack) (eight′ : Eight 
     where
       go : (b : Bool) → leb 8 n ≡ b → slotAt (putAt rack n s) n ≡ slotAt (putAt rack′ n s) n
       go true e = rw e
-      go false e = let inside = leb-false 8 n e in put-here rack n inside s eight ∙ sym (put-here rack′ n inside s eight′)
+      go false e = let inside = leb-false 8 n e in put-here rack n s inside eight ∙ sym (put-here rack′ n s inside eight′)
 
-  module _ (call : Call) (rs : List ℕ) (ns : List Float) (agree : slotAt rack n ≡ slotAt rack′ n) where
-    same-through : (x : Entry) → Same n (through x rack n call rs ns) (through x rack′ n call rs ns)
-    same-through (Shut refusal) = record { verdict = refl; rows = refl; numbers = refl; slot = agree }
-    same-through Open = rw agree (record { verdict = refl; rows = refl; numbers = refl; slot = same-put _ })
-
+-- the step sees nothing of the rack but the slot, so that both are one step put back
 pub rests : RestsOnSlot
 unfolding called
-rests rack rack′ n call free rs ns eight eight′ agree = rw agree (same-through rack rack′ n eight eight′ call rs ns agree (entryOf n (slotAt rack′ n) call free (length rs) (length ns)))
+rests rack rack′ n call free rs ns eight eight′ agree = rw agree (record { verdict = refl; rows = refl; numbers = refl; slot = same-put rack rack′ n eight eight′ _ })

@@ -7,7 +7,6 @@ use lib.Dec.{eqb}
 use lib.ListN.{length, getD-replicate}
 use borrow.Author.Tests.{eqb-true, eqb-false, eq-eqb, ne-eqb, lt-leb}
 use Rattle.bus.specs.Rows.{Row}
-use Rattle.bus.specs.Run.{Ran}
 use Rattle.rf_channel.specs.declared.ChannelSettings.{ChannelSettings}
 use Rattle.rf_channel.specs.declared.Events.{Events}
 use Rattle.rf_channel.specs.declared.Plan.{Plan}
@@ -25,20 +24,23 @@ use Rattle.rf_changes.specs.Changes.{stored}
 use Rattle.rf_start.specs.Start.{fresh}
 use Rattle.rf_calls.specs.declared.Request.{Request}
 use Rattle.rf_theorems.specs.Pins.{Levels, low, levelsAfter, slotOfRow, Own}
-use Rattle.rf_theorems.proofs.Keeps.{Kept, Keeps, keeps-done, keeps-more}
+use Rattle.rf_theorems.proofs.Keeps.{Keeps, keeps-more}
 use Rattle.rf_theorems.proofs.Rule.{Walked, Leads, keeps-carry}
 use Rattle.rf_theorems.proofs.Calls.{Ends, keeps-requested}
 use Rattle.rf_theorems.proofs.Start.{Starts, keeps-starting}
-use Rattle.entry.specs.declared.Call.{Call}
-use Rattle.entry.specs.declared.Call.the-variants.{Start, Ask}
+use Rattle.entry.specs.declared.Admitted.{Admitted}
+use Rattle.entry.specs.declared.Admitted.the-variants.{Start, Ask}
 use Rattle.entry.specs.declared.Entry.{Entry}
 use Rattle.entry.specs.declared.Entry.the-variants.{Open, Shut}
 use Rattle.entry.specs.Tests.{freeRows, entryOf}
+use Rattle.entry.proofs.Laws.{entered}
 use Rattle.slots.specs.declared.Rack.{Rack}
 use Rattle.slots.specs.Slots.{emptyBay, emptyRack, slotAt, putAt}
-use Rattle.slots.proofs.Laws.{put-here, put-there, put-length}
-use Rattle.rack_call.specs.Calls.{acts, through, called}
+use Rattle.slots.proofs.Laws.{put-here, put-there, put-length, put-same}
+use Rattle.slot_call.specs.Step.{acts, through, stepped}
+use Rattle.rack_call.specs.Calls.{called}
 use Rattle.rack_theorems.specs.History.{Asked, on, ofSlot, Eight}
+use Rattle.rack_theorems.proofs.Found.{Finds}
 
 -- ---- a call that is let in
 
@@ -57,11 +59,9 @@ module _ (J : Levels → Slot → Type 0) (halted : (q : Levels) (cause : Cause)
   pub keeps-ask : (g : Givens)
       → ((p : Levels) (c : RfChannel) (e : Events) → J p (S.Channel c) → Keeps p (processEvent c e (g .tick) (g .watchdog)) (Walked (λ q c′. J q (S.Channel c′))))
       → ((p : Levels) (c : RfChannel) (s : ChannelSettings) → J p (S.Channel c) → J p (S.Channel (stored c s)))
-      → (p : Levels) (s : Slot) (r : Request) → J p s → Keeps p (acts s (Ask r g)) (λ q x. J q (slotOf x))
+      → (p : Levels) (c : RfChannel) (r : Request) → J p (S.Channel c) → Keeps p (acts (Ask c r g)) (λ q x. J q (slotOf x))
   unfolding acts
-  keeps-ask g events stores p S.Empty r h = keeps-done _ h
-  keeps-ask g events stores p (S.Halted cause) r h = keeps-done _ h
-  keeps-ask g events stores p (S.Channel c) r h = keeps-more (keeps-requested OfChannel g events stores p c r h) ended
+  keeps-ask g events stores p c r h = keeps-more (keeps-requested OfChannel g events stores p c r h) ended
 
   started : (s : ChannelSettings) → ((q : Levels) → J q S.Empty) → J low (S.Channel (fresh s)) → (q : Levels) (x : Outcome) → Starts s q x → J q (slotOf x)
   unfolding Starts
@@ -70,9 +70,9 @@ module _ (J : Levels → Slot → Type 0) (halted : (q : Levels) (cause : Cause)
   started s empty first q (O.Halted cause) h = halted q cause h
 
   -- a start
-  pub keeps-start : (settings : ChannelSettings) → ((q : Levels) → J q S.Empty) → J low (S.Channel (fresh settings)) → (p : Levels) (s : Slot) (present : Bool) → Keeps p (acts s (Start settings present)) (λ q x. J q (slotOf x))
+  pub keeps-start : (settings : ChannelSettings) → ((q : Levels) → J q S.Empty) → J low (S.Channel (fresh settings)) → (p : Levels) (present : Bool) → Keeps p (acts (Start settings present)) (λ q x. J q (slotOf x))
   unfolding acts
-  keeps-start settings empty first p s present = keeps-more (keeps-starting p settings present) (started settings empty first)
+  keeps-start settings empty first p present = keeps-more (keeps-starting p settings present) (started settings empty first)
 
 -- ---- all rows of a call are of its slot
 
@@ -82,16 +82,16 @@ anywhere p c NoTransition = tt
 anywhere p c GuardFalse = tt
 anywhere p c (Go action state) = tt
 
-any-event : (g : Givens) (p : Levels) (c : RfChannel) (e : Events) → Unit {0} → Keeps p (processEvent c e (g .tick) (g .watchdog)) (Walked (λ q c′. Unit))
+pub any-event : (g : Givens) (p : Levels) (c : RfChannel) (e : Events) → Unit {0} → Keeps p (processEvent c e (g .tick) (g .watchdog)) (Walked (λ q c′. Unit))
 unfolding processEvent
 any-event g p c e h = keeps-carry (λ q c′. Unit) p c _ (anywhere p c _) h
 
-any-acts : (s : Slot) (call : Call) → Keeps low (acts s call) (λ q x. Unit)
-any-acts s (Start settings present) = keeps-start (λ q t. Unit) (λ q cause h. tt) settings (λ q. tt) tt low s present
-any-acts s (Ask r g) = keeps-ask (λ q t. Unit) (λ q cause h. tt) g (any-event g) (λ p c t h. h) low s r tt
+any-acts : (b : Admitted) → Keeps low (acts b) (λ q x. Unit)
+any-acts (Start settings present) = keeps-start (λ q t. Unit) (λ q cause h. tt) settings (λ q. tt) tt low present
+any-acts (Ask c r g) = keeps-ask (λ q t. Unit) (λ q cause h. tt) g (any-event g) (λ p c t h. h) low c r tt
 
-pub own-rows : (s : Slot) (call : Call) (replies : List ℕ) (n taken : ℕ) → Own n (acts s call replies n taken .rows)
-own-rows s call replies n taken = any-acts s call replies n taken .own
+pub own-rows : (b : Admitted) (replies : List ℕ) (n taken : ℕ) → Own n (acts b replies n taken .rows)
+own-rows b replies n taken = any-acts b replies n taken .own
 
 -- ---- the rows of one slot
 
@@ -116,52 +116,57 @@ of-other n m (x ∷ xs) d o = rw (ne-eqb (slotOfRow x) n (λ e. d (sym (o .0) �
 
 -- ---- any call
 
--- how slot n is entered
-abbrev pub entry : Rack → ℕ → Asked → Entry
-entry rack n a = entryOf n (slotAt rack n) (a .call) (freeRows (a .used) (length (a .log))) (length (a .replies)) (length (a .numbers))
+-- how what stands in slot n is entered
+abbrev pub entry : Slot → ℕ → Asked → Entry
+entry s n a = entryOf n s (a .call) (freeRows (a .used) (length (a .log))) (length (a .replies)) (length (a .numbers))
+
+-- what is let in has found what it is for
+pub let-in : (s : Slot) (n : ℕ) (a : Asked) (b : Admitted) → entry s n a ≡ Open b → (n < 8) × Finds s (a .call) b
+let-in s n a b o = let p = entered n s (a .call) (freeRows (a .used) (length (a .log))) (length (a .replies)) (length (a .numbers)) o in (p .0, p .2)
 
 pub eight-kept : (rack : Rack) (a : Asked) → Eight rack → Eight (on rack a .rack)
 unfolding called
-eight-kept rack a eight = go (entry rack (a .slot) a)
-  where
-    go : (e : Entry) → Eight (through e rack (a .slot) (a .call) (a .replies) (a .numbers) .rack)
-    go (Shut refusal) = eight
-    go Open = put-length rack (a .slot) _ ∙ eight
+eight-kept rack a eight = put-length rack (a .slot) _ ∙ eight
 
 -- all rows that a call adds are of the slot that it names
 pub own-added : (rack : Rack) (a : Asked) → Own (a .slot) (on rack a .rows)
-unfolding called Own
-own-added rack a = go (entry rack (a .slot) a)
+unfolding called stepped Own
+own-added rack a = go (entry (slotAt rack (a .slot)) (a .slot) a)
   where
-    go : (e : Entry) → Own (a .slot) (through e rack (a .slot) (a .call) (a .replies) (a .numbers) .rows)
+    go : (e : Entry) → Own (a .slot) (through e (a .slot) (slotAt rack (a .slot)) (a .replies) (a .numbers) .rows)
     go (Shut refusal) = tt
-    go Open = own-rows (slotAt rack (a .slot)) (a .call) (a .replies) (a .slot) 0
+    go (Open b) = own-rows b (a .replies) (a .slot) 0
 
 -- J holds in slot n, where the levels are p
 module _ (rack : Rack) (eight : Eight rack) (n : ℕ) (inside : n < 8) (J : Levels → Slot → Type 0) (p : Levels) (a : Asked) (stands : J p (slotAt rack n)) where
-  here : (x : Ran Outcome) → Kept n p (λ q y. J q (slotOf y)) x → J (levelsAfter p (ofSlot n (x .rows))) (slotAt (putAt rack n (slotOf (x .ans))) n)
-  here x k = rw (of-own n (x .rows) (k .own), put-here rack n inside (slotOf (x .ans)) eight) (k .holds)
+  -- what is let in keeps it
+  abbrev Keep : Type 0
+  Keep = (b : Admitted) → Finds (slotAt rack n) (a .call) b → Keeps p (acts b) (λ q x. J q (slotOf x))
 
-  there : (m : ℕ) → (m ≡ n → ⊥) → (x : Ran Outcome) → Own m (x .rows) → J (levelsAfter p (ofSlot n (x .rows))) (slotAt (putAt rack m (slotOf (x .ans))) n)
-  unfolding levelsAfter
-  there m d x o = rw (of-other n m (x .rows) d o, put-there rack m (slotOf (x .ans)) n (λ e. d (sym e))) stands
-
-  -- it holds after a call to slot m
-  abbrev After : ℕ → Entry → Type 0
-  After m e = J (levelsAfter p (ofSlot n (through e rack m (a .call) (a .replies) (a .numbers) .rows))) (slotAt (through e rack m (a .call) (a .replies) (a .numbers) .rack) n)
-
-  let-in : (m : ℕ) (b : Bool) → eqb m n ≡ b → (m ≡ n → Keeps p (acts (slotAt rack n) (a .call)) (λ q x. J q (slotOf x))) → After m Open
-  let-in m true e k = let f = eqb-true m n e in rw f (here (acts (slotAt rack n) (a .call) (a .replies) n 0) (k f (a .replies) n 0))
-  let-in m false e k = there m (eqb-false m n e) (acts (slotAt rack m) (a .call) (a .replies) m 0) (own-rows (slotAt rack m) (a .call) (a .replies) m 0)
-
-  entered : (m : ℕ) (e : Entry) → entry rack m a ≡ e → (entry rack n a ≡ Open → Keeps p (acts (slotAt rack n) (a .call)) (λ q x. J q (slotOf x))) → After m e
+  -- a call to slot n itself
+  here : Keep → (e : Entry) → entry (slotAt rack n) n a ≡ e → let x = through e n (slotAt rack n) (a .replies) (a .numbers) in J (levelsAfter p (ofSlot n (x .rows))) (slotAt (putAt rack n (x .standing)) n)
   unfolding levelsAfter ofSlot
-  entered m (Shut refusal) o k = stands
-  entered m Open o k = let-in m (eqb m n) refl (λ f. k (rw f at o))
+  here k (Shut refusal) o = rw (put-same rack n) stands
+  here k (Open b) o =
+      let x = acts b (a .replies) n 0 in
+      let y = k b (let-in (slotAt rack n) n a b o .1) (a .replies) n 0 in
+      rw (of-own n (x .rows) (y .own), put-here rack n (slotOf (x .ans)) inside eight) (y .holds)
 
-  pub seen : (entry rack n a ≡ Open → Keeps p (acts (slotAt rack n) (a .call)) (λ q x. J q (slotOf x))) → J (levelsAfter p (ofSlot n (on rack a .rows))) (slotAt (on rack a .rack) n)
-  unfolding called
-  seen k = entered (a .slot) (entry rack (a .slot) a) refl k
+  at-once : Keep → J (levelsAfter p (ofSlot n (called rack n (a .call) (freeRows (a .used) (length (a .log))) (a .replies) (a .numbers) .rows))) (slotAt (called rack n (a .call) (freeRows (a .used) (length (a .log))) (a .replies) (a .numbers) .rack) n)
+  unfolding called stepped
+  at-once k = here k (entry (slotAt rack n) n a) refl
+
+  -- a call to another slot
+  there : (a .slot ≡ n → ⊥) → J (levelsAfter p (ofSlot n (on rack a .rows))) (slotAt (on rack a .rack) n)
+  unfolding levelsAfter called
+  there d = rw (of-other n (a .slot) (on rack a .rows) d (own-added rack a), put-there rack (a .slot) _ n (λ e. d (sym e))) stands
+
+  pub seen : Keep → J (levelsAfter p (ofSlot n (on rack a .rows))) (slotAt (on rack a .rack) n)
+  seen k = go (eqb (a .slot) n) refl
+    where
+      go : (b : Bool) → eqb (a .slot) n ≡ b → J (levelsAfter p (ofSlot n (on rack a .rows))) (slotAt (on rack a .rack) n)
+      go true e = rw (eqb-true (a .slot) n e) (at-once k)
+      go false e = there (eqb-false (a .slot) n e)
 
 -- ---- the first rack
 

@@ -1,4 +1,4 @@
--- What the writes of new settings leave: transfers only, and where the interlock chip failed the last of them is a failed one. Assumes nothing.
+-- What the writes of new settings leave: transfers only, and where the interlock chip failed the last of them is a failed write to it. Assumes nothing.
 use Prim.Native.Nat.{ℕ}
 use mathlib.Core.Path.{refl, ap, sym, _∙_}
 use mathlib.Core.Bool.{Bool, true, false, cond}
@@ -23,7 +23,7 @@ use Rattle.rf_settings.specs.Settings.{levelApplied, biasApplied, onFine, write
 use Rattle.rack_theorems.specs.Demand1.{Transfers, LastFailed}
 use Rattle.rack_theorems.proofs.Gives.{Gives, gives-done, gives-bind, gives-mapped, gives-try}
 
--- for a 12 the last row is a failed transfer
+-- for a 12 the last row is a failed write to the chip
 unfoldable pub Chipped : ℕ → List Row → Written → Type 0
 Chipped n rows Fine = Unit
 Chipped n rows (Failed W.Range) = Unit
@@ -45,13 +45,13 @@ module _ (n : ℕ) where
   unfolding Chipped
   chip-after xs ys Fine h = tt
   chip-after xs ys (Failed W.Range) h = tt
-  chip-after xs ys (Failed W.Chip) h = record { earlier = xs ++ h .earlier; transfer = h .transfer; ends = ap (λ (z : List Row). xs ++ z) (h .ends) ∙ sym (append-assoc xs (h .earlier) _) }
+  chip-after xs ys (Failed W.Chip) h = record { earlier = xs ++ h .earlier; first = h .first; second = h .second; third = h .third; ends = ap (λ (z : List Row). xs ++ z) (h .ends) ∙ sym (append-assoc xs (h .earlier) _) }
   chip-after xs ys (Failed W.Bus) h = tt
 
   level-sent : (dac : Dac) (x : Conversion) → Gives n (Ad5627.sendCode dac x) (λ rows o. Wrote n rows (levelApplied o))
   unfolding Transfers Chipped
   level-sent dac Refused = gives-done _ (record { moves = tt; chip = tt })
-  level-sent dac (Code code) = gives-try (λ rows o. Wrote n rows (levelApplied o)) _ _ _ (record { moves = tt; chip = record { earlier = []; transfer = _; ends = refl } }) (λ d. gives-done _ (record { moves = tt; chip = tt }))
+  level-sent dac (Code code) = gives-try (λ rows o. Wrote n rows (levelApplied o)) _ _ _ (record { moves = tt; chip = record { earlier = []; first = _; second = _; third = _; ends = refl } }) (λ d. gives-done _ (record { moves = tt; chip = tt }))
 
   bias-sent : (x : Conversion) → Gives n (Dac7571.sendCode x) (λ rows o. Wrote n rows (biasApplied o))
   unfolding Transfers Chipped

@@ -8,7 +8,7 @@ use lib.ListN.{length, getD}
 use lib.Ieee.{Float}
 use Rattle.bus.specs.declared.Got.the-variants.{Failed}
 use Rattle.bus.specs.declared.Note.the-variants.{SignalOn, EnablePower}
-use Rattle.bus.specs.declared.Transfer.{Transfer}
+use Rattle.bus.specs.declared.Transfer.the-variants.{Write3}
 use Rattle.bus.specs.Rows.{Row, noted, moved}
 use Rattle.rf_channel.specs.declared.ChannelSettings.{ChannelSettings}
 use Rattle.rf_channel.specs.declared.RfChannel.{RfChannel}
@@ -19,14 +19,14 @@ use Rattle.rf_call.specs.declared.Slot.{Slot}
 use Rattle.rf_call.specs.declared.Slot.the-variants as S
 use Rattle.rf_changes.specs.Changes.{stored}
 use Rattle.rf_calls.specs.declared.Request.the-variants.{Settings}
-use Rattle.rf_theorems.specs.Pins.{Own}
+use Rattle.rf_theorems.specs.Pins.{Levels, low, levelsAfter, Own}
 use Rattle.gate.specs.Gate as G
 use Rattle.entry.specs.declared.Call.{Call}
 use Rattle.entry.specs.declared.Call.the-variants.{Start, Ask}
 use Rattle.slots.specs.declared.Rack.{Rack}
 use Rattle.slots.specs.declared.Verdict.{Verdict}
 use Rattle.slots.specs.declared.Verdict.the-variants.{Refused, Answered, Absent, Halted}
-use Rattle.slots.specs.Slots.{slotAt}
+use Rattle.slots.specs.Slots.{slotAt, numberOf}
 use Rattle.rack_call.specs.Calls.{Left}
 use Rattle.rack_theorems.specs.History.{Asked, on, logAfter, usedAfter, Eight}
 
@@ -56,16 +56,22 @@ pub record Stored (rack : Rack) (a : Asked) (x : Left) : Type 0 where
   pub no-event : Transfers (x .rows)
   pub numbers-stay : x .numbers ≡ a .numbers
 
--- the last row is a failed transfer
+-- the last row is a failed write to the interlock chip, whose address is 0x0E
 pub record LastFailed (n : ℕ) (rows : List Row) : Type 0 where
   pub earlier : List Row
-  pub transfer : Transfer
-  pub ends : rows ≡ earlier ++ (moved n transfer Failed ∷ [])
+  pub first : ℕ
+  pub second : ℕ
+  pub third : ℕ
+  pub ends : rows ≡ earlier ++ (moved n (Write3 0x0E first second third) Failed ∷ [])
 
 -- the last two rows set both output pins low
 pub record EndsLow (n : ℕ) (rows : List Row) : Type 0 where
   pub earlier : List Row
   pub ends : rows ≡ earlier ++ (noted n (SignalOn false) ∷ noted n (EnablePower false) ∷ [])
+
+-- the rows say that both output pins are low, whatever they were before
+abbrev pub SaysLow : List Row → Type 0
+SaysLow rows = (p : Levels) → levelsAfter p rows ≡ low
 
 -- a channel stands in the slot
 pub record Standing (s : Slot) : Type 0 where
@@ -84,7 +90,7 @@ LeftBy rack a x (Answered A.NoTransition) = Unchanged rack a x
 LeftBy rack a x (Answered A.GuardFalse) = Unchanged rack a x
 LeftBy rack a x (Answered A.Range) = Stored rack a x
 LeftBy rack a x (Answered A.Chip) = Stored rack a x × LastFailed (a .slot) (x .rows)
-LeftBy rack a x Absent = (slotAt (x .rack) (a .slot) ≡ S.Empty) × IsStart (a .call) × (x .numbers ≡ a .numbers)
+LeftBy rack a x Absent = (slotAt (x .rack) (a .slot) ≡ S.Empty) × IsStart (a .call) × SaysLow (x .rows) × (x .numbers ≡ a .numbers)
 LeftBy rack a x (Halted cause) = (slotAt (x .rack) (a .slot) ≡ S.Halted cause) × EndsLow (a .slot) (x .rows) × (x .numbers ≡ a .numbers)
 
 -- ---- any call
@@ -107,3 +113,9 @@ Each rack (a ∷ more) = Right rack a (on rack a) × Each (on rack a .rack) more
 
 abbrev pub Demand1 : Type 0
 Demand1 = (rack : Rack) (calls : List Asked) → Eight rack → Each rack calls
+
+-- ---- in numbers
+
+-- an answer 1 to 10 leaves everything as it was
+abbrev pub NothingChanged : Type 0
+NothingChanged = (rack : Rack) (a : Asked) → Eight rack → 1 ≤ numberOf (on rack a .verdict) → numberOf (on rack a .verdict) ≤ 10 → Unchanged rack a (on rack a)

@@ -25,27 +25,37 @@ use Rattle.rack_theorems.specs.History.{Asked, on, Past, next, history}
 
 -- ---- the domain
 
--- not answered 1 to 8
-unfoldable pub LetIn : Verdict → Type 0
-LetIn (Refused refusal) = ⊥
-LetIn (Answered answer) = Unit
-LetIn Absent = Unit
-LetIn (Halted cause) = Unit
-
 -- the tick by now: a start has none of its own
 abbrev pub tickBy : Call → ℕ → ℕ
 tickBy (Start settings present) last = last
 tickBy (Ask request givens) last = givens .tick
 
--- no call is answered 1 to 8; ticks never step back and stay below 2 ^ 31
+-- a call that is answered 1 to 8 is left out: it moves no tick
+abbrev pub tickAfter : Verdict → Call → ℕ → ℕ
+tickAfter (Refused refusal) call last = last
+tickAfter (Answered answer) call last = tickBy call last
+tickAfter Absent call last = tickBy call last
+tickAfter (Halted cause) call last = tickBy call last
+
+-- ticks never step back and stay below 2 ^ 31
+abbrev pub Steady : Call → ℕ → Type 0
+Steady call last = (last ≤ tickBy call last) × (tickBy call last < 2 ^ 31)
+
+-- a call that is answered 1 to 8 is asked nothing
+unfoldable pub TickFits : Verdict → Call → ℕ → Type 0
+TickFits (Refused refusal) call last = Unit
+TickFits (Answered answer) call last = Steady call last
+TickFits Absent call last = Steady call last
+TickFits (Halted cause) call last = Steady call last
+
 unfoldable pub InDomain : Past → ℕ → List Asked → Type 0
 InDomain past last [] = Unit
-InDomain past last (a ∷ more) = LetIn (on (past .rack) a .verdict) × (last ≤ tickBy (a .call) last) × (tickBy (a .call) last < 2 ^ 31) × InDomain (next past a) (tickBy (a .call) last) more
+InDomain past last (a ∷ more) = let v = on (past .rack) a .verdict in TickFits v (a .call) last × InDomain (next past a) (tickAfter v (a .call) last) more
 
 -- the last tick of some calls
-unfoldable pub lastTick : ℕ → List Asked → ℕ
-lastTick last [] = last
-lastTick last (a ∷ more) = lastTick (tickBy (a .call) last) more
+unfoldable pub lastTick : Past → ℕ → List Asked → ℕ
+lastTick past last [] = last
+lastTick past last (a ∷ more) = lastTick (next past a) (tickAfter (on (past .rack) a .verdict) (a .call) last) more
 
 -- ---- the table with a plain clock: 200 and 500 ms are added, and a deadline is late as soon as the tick is above it
 
@@ -86,7 +96,15 @@ SpeaksPlainly last (S.Halted cause) = Unit
 SpeaksPlainly last (S.Channel c) = (e : Events) (tick : ℕ) (watchdog : Bool) → last ≤ tick → tick < 2 ^ 31 → planned table c e tick watchdog ≡ spoken table c e tick watchdog
 
 abbrev pub PlainClock : Type 0
-PlainClock = (calls : List Asked) → InDomain (history []) 0 calls → (n : ℕ) → n < 8 → SpeaksPlainly (lastTick 0 calls) (slotAt (history calls .rack) n)
+PlainClock = (calls : List Asked) → InDomain (history []) 0 calls → (n : ℕ) → n < 8 → SpeaksPlainly (lastTick (history []) 0 calls) (slotAt (history calls .rack) n)
+
+-- The domain is wide: all calls whose ticks never step back and stay below 2 ^ 31 are in it, whatever they are answered.
+unfoldable pub Ordered : ℕ → List Asked → Type 0
+Ordered last [] = Unit
+Ordered last (a ∷ more) = Steady (a .call) last × Ordered (tickBy (a .call) last) more
+
+abbrev pub Wide : Type 0
+Wide = (calls : List Asked) → Ordered 0 calls → InDomain (history []) 0 calls
 
 -- within one call: an event that finds a near deadline does what the table says with a plain clock, and leads to a near one, which the next event of the same call finds
 unfoldable pub LeadsNear : ℕ → Plan → Type 0

@@ -1,7 +1,8 @@
 -- Calls on a rack one after the other, each with what it is given and what is lent to it; and the pin rule. Definitions only.
-use Prim.Native.Nat.{ℕ, _+_, _<_}
+use Prim.Native.Nat.{ℕ, _+_, _≤_, _<_}
 use mathlib.Core.Path.{_≡_}
 use mathlib.Core.Bool.{cond}
+use mathlib.Core.Logic.{_⊎_}
 use mathlib.Core.List.{List, [], _∷_, _++_}
 use lib.Dec.{eqb}
 use lib.ListN.{length}
@@ -13,6 +14,7 @@ use Rattle.rf_call.specs.declared.Slot.{Slot}
 use Rattle.rf_call.specs.declared.Slot.the-variants as S
 use Rattle.rf_theorems.specs.Pins.{Levels, low, levelsAfter, levelsIn, held, slotOfRow}
 use Rattle.entry.specs.declared.Call.{Call}
+use Rattle.entry.specs.declared.Call.the-variants.{Start, Ask}
 use Rattle.entry.specs.Tests.{freeRows}
 use Rattle.slots.specs.declared.Rack.{Rack}
 use Rattle.slots.specs.Slots.{emptyRack, slotAt}
@@ -38,6 +40,14 @@ logAfter a x = written (a .log) (a .used) (x .rows)
 
 abbrev pub usedAfter : Asked → Left → ℕ
 usedAfter a x = a .used + length (x .rows)
+
+-- the rows that a call adds at most: a start 20 (18, and two of a halt), a request 7
+abbrev pub mostRows : Call → ℕ
+mostRows (Start settings present) = 20
+mostRows (Ask request givens) = 7
+
+abbrev pub RowsAtMost : Type 0
+RowsAtMost = (rack : Rack) (a : Asked) → length (on rack a .rows) ≤ mostRows (a .call)
 
 -- ---- one call after the other
 
@@ -94,3 +104,17 @@ IsBlocked f (S.Channel c) = c .state ≡ Blocked f
 -- whatever is asked of whatever slot, also a start, and whatever the replies are
 abbrev pub BlockedRule : Type 0
 BlockedRule = (f : ChannelFault) (rack : Rack) → Eight rack → (n : ℕ) → n < 8 → IsBlocked f (slotAt rack n) → (a : Asked) → StaysBlocked f (slotAt (on rack a .rack) n)
+
+-- slot n was halted by one of some calls
+unfoldable pub IsHalted : Slot → Type 0
+IsHalted S.Empty = ⊥
+IsHalted (S.Halted cause) = Unit
+IsHalted (S.Channel c) = ⊥
+
+unfoldable pub HaltedBy : ℕ → Past → List Asked → Type 0
+HaltedBy n past [] = ⊥
+HaltedBy n past (a ∷ more) = IsHalted (slotAt (next past a .rack) n) ⊎ HaltedBy n (next past a) more
+
+-- any calls: the channel is still blocked by the same fault, unless the slot was halted in between, and may have been started anew
+abbrev pub BlockedAlways : Type 0
+BlockedAlways = (f : ChannelFault) (past : Past) → Eight (past .rack) → (n : ℕ) → n < 8 → IsBlocked f (slotAt (past .rack) n) → (calls : List Asked) → IsBlocked f (slotAt (goesOn past calls .rack) n) ⊎ HaltedBy n past calls

@@ -1,7 +1,8 @@
--- Calls on a rack one after the other; the pin rule, the first demand, what an answer rests on, the second demand's domain, the requests in the words of the table, and a channel that is lent.
+-- Calls on a rack one after the other; the pin rule, the first demand, what an answer rests on, the second demand's domain, the requests in the words of the table, and an invented count.
 pub mod History
 pub mod Demand1
 pub mod Rests
 pub mod Domain
 pub mod Words
-pub mod InPlace
+pub mod Impostors
+pub mod Worked

@@ -2,7 +2,7 @@
 use Prim.Native.Nat.{ℕ, _+_, _≤_}
 use native.Mathlib.Omega.{arith}
 use mathlib.Core.Bool.{Bool, true, false, cond}
-use mathlib.Core.Path.{_≡_, refl}
+use mathlib.Core.Path.{_≡_, refl, ap}
 use mathlib.Core.List.{List}
 use lib.Dec.{eqb, leb}
 use lib.ListN.{length}
@@ -15,7 +15,7 @@ use Rattle.entry.specs.declared.Call.{Call}
 use Rattle.rf_call.specs.declared.Slot.{Slot}
 use Rattle.slots.specs.declared.Rack.{Rack}
 use Rattle.slots.specs.declared.Turn.{Turn}
-use Rattle.slots.specs.Slots.{slotAt, numberOf}
+use Rattle.slots.specs.Slots.{slotAt, numberOf, Said}
 use Rattle.rack_call.specs.Calls.{Leaves}
 use Rattle.text.specs.Texts.{Wrote}
 use Rattle.sheet.specs.Lines.{answerText, badText}
@@ -56,4 +56,4 @@ module _ (s : State) (n : ℕ) (l : List ℕ) {o o′ : List ℕ} {a p : ℕ} wh
       → Tells s n l (record { rack = t .rack; used = t .used; log = log′ }) o a o′ p
   unfolding afterLine lineText
   tells-call e left is stands w short =
-      (rw (e, left .rack, left .used, left .log) refl, rw e (rw (is, stands, left .verdict, left .rack, left .used) at w), omega (arith, w .past))
+      (rw (e, left .rack, left .used, left .log) refl, rw e (rw (is, stands, ap (λ (x : Said). x .number) (left .said), left .rack, left .used) at w), omega (arith, w .past))

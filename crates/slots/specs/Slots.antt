@@ -1,11 +1,15 @@
 -- The eight slots, and the numbers of the answers. Definitions only.
 use Prim.Native.Nat.{ℕ}
-use mathlib.Core.Bool.{cond}
+use mathlib.Core.Bool.{Bool, cond}
 use lib.Dec.{leb}
 use lib.ListN.{getD, set, replicate}
+use mathlib.Core.Option.{Option, none, some}
+use Rattle.rf_channel.specs.declared.States.{States}
 use Rattle.rf_machine.specs.declared.Cause.{Cause}
 use Rattle.rf_call.specs.declared.Answer.{Answer}
 use Rattle.rf_call.specs.declared.Answer.the-variants as A
+use Rattle.rf_call.specs.declared.Report.{Report}
+use Rattle.rf_call.specs.declared.Report.the-variants.{Plain, Power, Status}
 use Rattle.rf_call.specs.declared.Outcome.{Outcome}
 use Rattle.rf_call.specs.declared.Outcome.the-variants as O
 use Rattle.rf_call.specs.declared.Slot.{Slot}
@@ -30,9 +34,9 @@ emptyRack = record { bays = replicate 8 emptyBay }
 abbrev pub slotAt : Rack → ℕ → Slot
 slotAt rack n = cond (leb 8 n) S.Empty (getD (rack .bays) n emptyBay .slot)
 
--- the rack with s in slot n, and all others as they are
+-- the rack with s in slot n, and all others as they are: above the eighth there is none, and nothing changes
 abbrev pub putAt : Rack → ℕ → Slot → Rack
-putAt rack n s = record { bays = set (rack .bays) n (record { slot = s }) }
+putAt rack n s = cond (leb 8 n) rack (record { bays = set (rack .bays) n (record { slot = s }) })
 
 -- ---- the answers
 
@@ -58,3 +62,50 @@ causeBeside (Refused refusal) = 0
 causeBeside (Answered answer) = 0
 causeBeside Absent = 0
 causeBeside (Halted cause) = N.causeOf cause
+
+-- three flags: of an update its front panel's (powered, RF disabled, blocked), of a status its pins' (reflected, output, alert)
+pub record Flags : Type 0 where
+  pub first : Bool
+  pub second : Bool
+  pub third : Bool
+
+abbrev pub flagsIn : Report → Option Flags
+flagsIn Plain = none
+flagsIn (Power p) = some (record { first = p .powered; second = p .«rf_disabled»; third = p .blocked })
+flagsIn (Status s) = some (record { first = s .«reflected_overdrive»; second = s .«output_overdrive»; third = s .alert })
+
+-- the state that a status shows
+abbrev pub stateIn : Report → Option States
+stateIn Plain = none
+stateIn (Power p) = none
+stateIn (Status s) = some (s .state)
+
+abbrev pub flagsOf : Verdict → Option Flags
+flagsOf (Refused refusal) = none
+flagsOf (Answered (A.Done report)) = flagsIn report
+flagsOf (Answered A.NoTransition) = none
+flagsOf (Answered A.GuardFalse) = none
+flagsOf (Answered A.Range) = none
+flagsOf (Answered A.Chip) = none
+flagsOf Absent = none
+flagsOf (Halted cause) = none
+
+abbrev pub stateOf : Verdict → Option States
+stateOf (Refused refusal) = none
+stateOf (Answered (A.Done report)) = stateIn report
+stateOf (Answered A.NoTransition) = none
+stateOf (Answered A.GuardFalse) = none
+stateOf (Answered A.Range) = none
+stateOf (Answered A.Chip) = none
+stateOf Absent = none
+stateOf (Halted cause) = none
+
+-- an answer in document 01's numbers: its number, the cause beside a 14, the flags of an update or a status, and the state of a status. A promise says an answer by this.
+pub record Said : Type 0 where
+  pub number : ℕ
+  pub cause : ℕ
+  pub flags : Option Flags
+  pub state : Option States
+
+abbrev pub saidOf : Verdict → Said
+saidOf v = record { number = numberOf v; cause = causeBeside v; flags = flagsOf v; state = stateOf v }

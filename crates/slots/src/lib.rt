@@ -1,13 +1,10 @@
 // The eight slots of the bay, and what a call on one of them answers.
 use entry::Refusal;
 use rf_call::Answer;
-use rf_call::Ended;
 use rf_call::Outcome;
 use rf_call::Slot;
 use rf_machine::Cause;
-ghost use Prim.Native.Nat.{_<_};
 ghost use mathlib.Core.Path.{_≡_};
-ghost use Rattle.rf_call.specs.Outcome.{slotOf};
 ghost use Rattle.slots.specs.Slots.{emptyRack, slotAt, putAt, verdictOf, numberOf, causeBeside};
 
 // A slot of the bay. An array of a struct's own may hold structs, and not enums.
@@ -56,11 +53,13 @@ pub fn slot_at(rack: Rack, slot: u8) -> Slot
     standing
 }
 
-// The rack with another thing in one of its slots.
-fn put_at(rack: Rack, slot: u8, standing: Slot) -> Rack
-    requires { ⌜ slot < 8 ⌝ }
+// The rack with another thing in one of its slots. Above the eighth nothing changes.
+pub fn put_at(rack: Rack, slot: u8, standing: Slot) -> Rack
     ensures { λ r. ⌜ r ≡ putAt rack slot standing ⌝ }
 {
+    if 8 <= slot {
+        return rack;
+    }
     let mut out = rack;
     let i = slot as usize;
     let bay = Bay { slot: standing };
@@ -105,34 +104,5 @@ pub fn cause_beside(verdict: Verdict) -> u8
         Verdict::Answered(_) => 0,
         Verdict::Absent => 0,
         Verdict::Halted(cause) => rf_call::cause_number(cause),
-    }
-}
-
-// A refusal leaves everything as it was.
-pub fn refuse(rack: Rack, refusal: Refusal, used: usize) -> Turn
-    ensures { λ r. ⌜ (r .rack ≡ rack) × (r .verdict ≡ Verdict.Refused refusal) × (r .used ≡ used) ⌝ }
-{
-    let verdict = Verdict::Refused(refusal);
-    Turn {
-        rack,
-        verdict,
-        used,
-    }
-}
-
-// What stands in the slot afterwards, and the answer.
-pub fn close(rack: Rack, ended: Ended, slot: u8) -> Turn
-    requires { ⌜ slot < 8 ⌝ }
-    ensures { λ r. ⌜ (r .rack ≡ putAt rack slot (slotOf (ended .outcome))) × (r .verdict ≡ verdictOf (ended .outcome)) × (r .used ≡ ended .next .used) ⌝ }
-{
-    let outcome = ended.outcome;
-    let next = ended.next;
-    let standing = rf_call::slot_of(outcome);
-    let rack = put_at(rack, slot, standing);
-    let verdict = verdict_of(outcome);
-    Turn {
-        rack,
-        verdict,
-        used: next.used,
     }
 }

@@ -1,11 +1,11 @@
 -- `entry::entry_of` meets its contract: the groups of tests one after the other. Assumes nothing.
-use native.Mathlib.Omega.{arith}
-use mathlib.Core.Path.{_∙_}
-use borrow.Author.Needs.{needs}
-use Rattle.entry.specs.Tests.{freeRows}
-use Rattle.entry.proofs.Laws.{number-shut, standing-shut, room-shut, room-open}
 use Rattle.entry.proofs.entry_of.Statement.{statement}
 use Rattle.entry.proofs.entry_of.Tie as tie
+use borrow.Author.Needs.{needs}
+use native.Mathlib.Omega.{arith}
+use mathlib.Core.Path.{_∙_}
+use Rattle.entry.specs.Tests.{freeRows}
+use Rattle.entry.proofs.Laws.{number-shut, standing-shut, room-shut, room-open}
 
 shut-requires : tie.Need-shut-requires
 shut-requires c κs = search needs

@@ -1,10 +1,10 @@
 -- `entry::of_given` meets its contract, for each request. Assumes nothing.
+use Rattle.entry.proofs.of_given.Statement.{statement}
+use Rattle.entry.proofs.of_given.Tie as tie
+use borrow.Author.Needs.{needs}
 use native.Mathlib.Omega.{arith}
 use mathlib.Core.Path.{sym, _∙_}
-use borrow.Author.Needs.{needs}
 use borrow.Author.Tests.{lt-ltb, le-ltb}
-use Rattle.entry.proofs.of_given.Tie as tie
-use Rattle.entry.proofs.of_given.Statement.{statement}
 
 enum-told : tie.Need-enum-told
 enum-told c = search needs
@@ -52,7 +52,7 @@ shut-requires-3 : tie.Need-shut-requires-3
 shut-requires-3 c κs = search needs
 
 returns-4 : tie.Need-returns-4
-returns-4 c = search needs
+returns-4 c = rw (c .enum-told .given .1)
 
 returns-5 : tie.Need-returns-5
 returns-5 c = rw (c .before .before .before .before .call .given .1, c .enum-told2 .given .1)

@@ -1,2 +1,0 @@
--- A request of a channel that stands by itself.
-pub mod Asked
