@@ -14,7 +14,8 @@ use Rattle.rf_channel.specs.Guards.{tenth}
 use Rattle.rf_machine.specs.Hardware.{v3-2}
 use Rattle.rf_devices.specs.Devices.{highestReflected}
 use Rattle.rf_tests.specs.Tests.{hottest, coldest, strongest}
-use Rattle.rf_status.specs.Numbers.{p28vCurrent, p5vCurrent, p5vVoltage, detected}
+use Rattle.rf_status.specs.Numbers.{p28vCurrent, p5vCurrent, p5vVoltage}
+use Rattle.rf_methods.specs.Methods.{detected}
 
 -- ---- the constants that have a name: each beside its decimal, which is `digits` with so many of them after the point
 

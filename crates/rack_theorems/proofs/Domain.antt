@@ -3,8 +3,9 @@ use Prim.Native.Nat.{ℕ, _+_ as plus, _^_, _≤_, _<_}
 use native.Mathlib.Omega.{arith}
 use mathlib.Core.Path.{_≡_, refl, subst}
 use mathlib.Core.Bool.{Bool, true, false, cond, _&&_}
+use mathlib.Core.Option.{Option, none, some}
 use mathlib.Core.List.{List, [], _∷_}
-use lib.Dec.{leb, ltb, eqb}
+use lib.Dec.{leb, ltb}
 use borrow.Author.Tests.{leb-true, ltb-true, ltb-false, le-leb}
 use Rattle.rf_channel.specs.declared.Events.{Events}
 use Rattle.rf_channel.specs.declared.Plan.{Plan}
@@ -14,7 +15,9 @@ use Rattle.rf_channel.specs.declared.States.{States}
 use Rattle.rf_channel.specs.Guards.{later, past, lateOf}
 use Rattle.rf_plan.specs.Table.{Shape, Guard, Line, _+_⟦_⟧_⇒_, table}
 use Rattle.rf_plan.specs.Table as T
-use Rattle.rf_plan.specs.Plan.{shapeOf, nameOf, deadlineOf, shapeNumber, nameNumber, holds, arrive, planned}
+use Rattle.rf_plan.specs.Plan.{given, deadlineOf, tripOf, newFault, holds, arrive, meant, for, planned}
+use Rattle.rf_plan.specs.Whole.{IfAny}
+use Rattle.rf_plan.proofs.Whole.{if-given, if-more, if-meant}
 use Rattle.rf_machine.specs.Event.{processEvent}
 use Rattle.rf_call.specs.declared.Slot.{Slot}
 use Rattle.rf_call.specs.declared.Slot.the-variants as S
@@ -32,7 +35,7 @@ use Rattle.slots.specs.Slots.{emptyRack, slotAt}
 use Rattle.slot_call.specs.Step.{acts}
 use Rattle.rack_theorems.specs.History.{Asked, on, Past, next, goesOn, history, Eight}
 use Rattle.rack_theorems.specs.Demand1.{Unchanged, LeftBy}
-use Rattle.rack_theorems.specs.Domain.{tickBy, tickAfter, Steady, TickFits, InDomain, lastTick, Ordered, Wide, passes, leads, spoken, Sane, SpeaksPlainly, PlainClock, LeadsNear, PlainEvents}
+use Rattle.rack_theorems.specs.Domain.{tickBy, tickAfter, Steady, TickFits, InDomain, lastTick, Ordered, Wide, passes, leads, spoken, Near, Sane, SpeaksPlainly, PlainClock, LeadsNear, PlainEvents}
 use Rattle.rack_theorems.proofs.Found.{Finds, found}
 use Rattle.rack_theorems.proofs.Seen.{keeps-start, keeps-ask, eight-kept, seen, first-empty}
 use Rattle.rack_theorems.proofs.Demand1.{right}
@@ -51,14 +54,19 @@ late-plain tick deadline near below = go (ltb deadline tick) (ltb-true deadline 
     go true p q = let h = p refl in rw (le-leb 1 (past tick deadline) (omega (arith, h)), le-leb (past tick deadline) 2147483647 (omega (arith, h)))
     go false p q = both (leb 1 (past tick deadline)) (leb (past tick deadline) 2147483647) (leb-true 1 (past tick deadline)) (leb-true (past tick deadline) 2147483647) (q refl)
 
+-- the same where there is a deadline, and where there is none
+timeout-plain : (tick : ℕ) (d : Option ℕ) → IfAny (λ (x : ℕ). x ≤ plus tick 500) d → tick < 2 ^ 31 → given (λ (x : ℕ). lateOf tick x) d ≡ given (λ (x : ℕ). ltb x tick) d
+timeout-plain tick none near below = refl
+timeout-plain tick (some x) near below = rw (late-plain tick x near below)
+
 later-plain : (tick wait : ℕ) → tick < 2 ^ 31 → wait ≤ 500 → later tick wait ≡ plus tick wait
 later-plain tick wait below short = omega arith
 
-module _ (c : RfChannel) (e : Events) (tick : ℕ) (watchdog : Bool) (near : deadlineOf (c .state) ≤ plus tick 500) (below : tick < 2 ^ 31) where
+module _ (c : RfChannel) (e : Events) (tick : ℕ) (watchdog : Bool) (near : Near tick (c .state)) (below : tick < 2 ^ 31) where
   guard-plain : (guard : Guard) → holds guard c tick watchdog ≡ passes guard c tick watchdog
   guard-plain T.always = refl
   guard-plain T.guard-powerup = refl
-  guard-plain T.check-timeout = late-plain tick (deadlineOf (c .state)) near below
+  guard-plain T.check-timeout = timeout-plain tick (deadlineOf (c .state)) near below
   guard-plain T.guard-enable = refl
 
   state-plain : (to : Shape) → arrive to (c .state) e tick ≡ leads to (c .state) e tick
@@ -75,46 +83,49 @@ module _ (c : RfChannel) (e : Events) (tick : ℕ) (watchdog : Bool) (near : dea
   lines-plain [] = refl
   lines-plain ((from + on ⟦ guard ⟧ action ⇒ to) ∷ lines) = rw (guard-plain guard, state-plain to, lines-plain lines)
 
+-- what was near is near at every later tick
+near-later : (last tick : ℕ) (s : States) → last ≤ tick → Near last s → Near tick s
+near-later last tick s l h = if-more _ _ (deadlineOf s) (λ (d : ℕ) (g : d ≤ plus last 500). omega (arith, l, g)) h
+
 speaks : (last : ℕ) (s : Slot) → Sane last s → SpeaksPlainly last s
 unfolding Sane SpeaksPlainly
 speaks last S.Empty h = tt
 speaks last (S.Halted cause) h = tt
-speaks last (S.Channel c) h = λ e tick watchdog later below. lines-plain c e tick watchdog (omega (arith, h, later)) below table
+speaks last (S.Channel c) h = λ e tick watchdog later below. lines-plain c e tick watchdog (near-later last tick (c .state) later h) below table
 
 -- ---- every call leaves a near deadline
 
-near-arrival : (to : Shape) (s : States) (e : Events) (tick : ℕ) → deadlineOf (arrive to s e tick) ≤ plus tick 500
-near-arrival T.Off s e tick = omega arith
+near-arrival : (to : Shape) (s : States) (e : Events) (tick : ℕ) → IfAny (λ x. Near tick x) (arrive to s e tick)
+near-arrival T.Off s e tick = tt
 near-arrival T.Powerup s e tick = omega arith
-near-arrival T.Powered s e tick = omega arith
-near-arrival T.Enabled s e tick = omega arith
-near-arrival T.Tripped s e tick = omega arith
+near-arrival T.Powered s e tick = tt
+near-arrival T.Enabled s e tick = tt
+near-arrival T.Tripped s e tick = if-given _ _ (tripOf e) (λ i. tt)
 near-arrival T.Powerdown s e tick = omega arith
-near-arrival T.Blocked s e tick = omega arith
+near-arrival T.Blocked s e tick = if-given _ _ (newFault e) (λ f. tt)
 
 module _ (tick : ℕ) where
-  abbrev Near : Levels → RfChannel → Type 0
-  Near q c = deadlineOf (c .state) ≤ plus tick 500
+  abbrev AtTick : Levels → RfChannel → Type 0
+  AtTick q c = Near tick (c .state)
 
-  choose : (p : Levels) (c : RfChannel) (b : Bool) (x y : Plan) → Leads Near p c x → Leads Near p c y → Leads Near p c (cond b x y)
+  choose : (p : Levels) (c : RfChannel) (b : Bool) (x y : Plan) → Leads AtTick p c x → Leads AtTick p c y → Leads AtTick p c (cond b x y)
   choose p c true x y f g = f
   choose p c false x y f g = g
 
   -- every line leads to a near deadline, so that the events of a call that come after its first find one as well
-  pub near-plan : (p : Levels) (c : RfChannel) (e : Events) (watchdog : Bool) (lines : List Line) → Leads Near p c (planned lines c e tick watchdog)
+  pub near-plan : (p : Levels) (c : RfChannel) (e : Events) (watchdog : Bool) (lines : List Line) → Leads AtTick p c (planned lines c e tick watchdog)
   unfolding planned Leads
   near-plan p c e watchdog [] = tt
   near-plan p c e watchdog ((from + on ⟦ guard ⟧ action ⇒ to) ∷ lines) =
-      let go = Go action (arrive to (c .state) e tick) in
-      choose p c (eqb (shapeNumber from) (shapeNumber (shapeOf (c .state))) && eqb (nameNumber on) (nameNumber (nameOf e))) (cond (holds guard c tick watchdog) go GuardFalse) (planned lines c e tick watchdog)
-      (choose p c (holds guard c tick watchdog) go GuardFalse (near-arrival to (c .state) e tick) tt)
+      choose p c (for from on (c .state) e) (meant action (holds guard c tick watchdog) (arrive to (c .state) e tick)) (planned lines c e tick watchdog)
+      (if-meant (Leads AtTick p c) tt tt action (holds guard c tick watchdog) (arrive to (c .state) e tick) (near-arrival to (c .state) e tick))
       (near-plan p c e watchdog lines)
 
-  pub near-event : (watchdog : Bool) (p : Levels) (c : RfChannel) (e : Events) → Near p c → Keeps p (processEvent c e tick watchdog) (Walked Near)
+  pub near-event : (watchdog : Bool) (p : Levels) (c : RfChannel) (e : Events) → AtTick p c → Keeps p (processEvent c e tick watchdog) (Walked AtTick)
   unfolding processEvent
-  near-event watchdog p c e h = keeps-carry Near p c (planned table c e tick watchdog) (near-plan p c e watchdog table) h
+  near-event watchdog p c e h = keeps-carry AtTick p c (planned table c e tick watchdog) (near-plan p c e watchdog table) h
 
-near-leads : (p : Levels) (c : RfChannel) (tick : ℕ) (plan : Plan) → Leads (Near tick) p c plan → LeadsNear tick plan
+near-leads : (p : Levels) (c : RfChannel) (tick : ℕ) (plan : Plan) → Leads (AtTick tick) p c plan → LeadsNear tick plan
 unfolding Leads LeadsNear
 near-leads p c tick NoTransition l = tt
 near-leads p c tick GuardFalse l = tt
@@ -126,17 +137,16 @@ plain-events c e tick watchdog near below = (lines-plain c e tick watchdog near 
 sane-acts : (last : ℕ) (p : Levels) (s : Slot) (call : Call) (b : Admitted) → Finds s call b → Sane (tickBy call last) s → Keeps p (acts b) (λ q x. Sane (tickBy call last) (slotOf x))
 unfolding Sane
 sane-acts last p = found (λ s call b. Sane (tickBy call last) s → Keeps p (acts b) (λ q x. Sane (tickBy call last) (slotOf x)))
-    (λ s x settings present h. keeps-start (λ q t. Sane last t) (λ q cause e. tt) settings (λ q. tt) (omega arith) p present)
+    (λ s x settings present h. keeps-start (λ q t. Sane last t) (λ q cause e. tt) settings (λ q. tt) tt p present)
     (λ c r g h. keeps-ask (λ q t. Sane (g .tick) t) (λ q cause e. tt) g (near-event (g .tick) (g .watchdog)) (λ q c t i. i) p c r h)
 
 -- ---- one call after the other
 
--- what was near is near at every later tick
 sane-later : (last tick : ℕ) (s : Slot) → last ≤ tick → Sane last s → Sane tick s
 unfolding Sane
 sane-later last tick S.Empty l h = tt
 sane-later last tick (S.Halted cause) l h = tt
-sane-later last tick (S.Channel c) l h = omega (arith, l, h)
+sane-later last tick (S.Channel c) l h = near-later last tick (c .state) l h
 
 module _ (n : ℕ) (inside : n < 8) (past : Past) (last : ℕ) (a : Asked) (eight : Eight (past .rack)) (h : Sane last (slotAt (past .rack) n)) where
   -- a call that is not left out

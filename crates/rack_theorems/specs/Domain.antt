@@ -1,10 +1,13 @@
 -- The second demand's domain, and what an event means there: the table with a clock that does not wrap. Definitions only.
 use Prim.Native.Nat.{ℕ, _+_ as plus, _^_, _≤_, _<_}
 use mathlib.Core.Path.{_≡_}
-use mathlib.Core.Bool.{Bool, true, cond, _&&_}
+use mathlib.Core.Bool.{Bool, true, cond}
+use mathlib.Core.Option.{Option, some}
 use mathlib.Core.List.{List, [], _∷_}
-use lib.Dec.{eqb, ltb}
+use lib.Dec.{ltb}
+use Rattle.rf_channel.specs.declared.ChannelFault.{ChannelFault}
 use Rattle.rf_channel.specs.declared.Events.{Events}
+use Rattle.rf_channel.specs.declared.Interlock.{Interlock}
 use Rattle.rf_channel.specs.declared.Plan.{Plan}
 use Rattle.rf_channel.specs.declared.Plan.the-variants.{NoTransition, GuardFalse, Go}
 use Rattle.rf_channel.specs.declared.RfChannel.{RfChannel}
@@ -13,7 +16,8 @@ use Rattle.rf_channel.specs.declared.States.the-variants as St
 use Rattle.rf_channel.specs.Guards.{powerupOf, enableOf}
 use Rattle.rf_plan.specs.Table.{Shape, Guard, Line, _+_⟦_⟧_⇒_, table}
 use Rattle.rf_plan.specs.Table as T
-use Rattle.rf_plan.specs.Plan.{shapeOf, nameOf, deadlineOf, tripOf, faultOf, shapeNumber, nameNumber, planned}
+use Rattle.rf_plan.specs.Plan.{given, deadlineOf, tripOf, newFault, faultOf, meant, for, planned}
+use Rattle.rf_plan.specs.Whole.{IfAny}
 use Rattle.rf_call.specs.declared.Slot.{Slot}
 use Rattle.rf_call.specs.declared.Slot.the-variants as S
 use Rattle.entry.specs.declared.Call.{Call}
@@ -59,35 +63,36 @@ lastTick past last (a ∷ more) = lastTick (next past a) (tickAfter (on (past .r
 
 -- ---- the table with a plain clock: 200 and 500 ms are added, and a deadline is late as soon as the tick is above it
 
-abbrev pub passes : Guard → RfChannel → ℕ → Bool → Bool
-passes T.always c tick watchdog = true
-passes T.guard-powerup c tick watchdog = powerupOf (c .settings)
-passes T.check-timeout c tick watchdog = ltb (deadlineOf (c .state)) tick
-passes T.guard-enable c tick watchdog = enableOf c watchdog
+abbrev pub passes : Guard → RfChannel → ℕ → Bool → Option Bool
+passes T.always c tick watchdog = some true
+passes T.guard-powerup c tick watchdog = some (powerupOf (c .settings))
+passes T.check-timeout c tick watchdog = given (λ (d : ℕ). ltb d tick) (deadlineOf (c .state))
+passes T.guard-enable c tick watchdog = some (enableOf c watchdog)
 
-abbrev pub leads : Shape → States → Events → ℕ → States
-leads T.Off s e tick = St.Off
-leads T.Powerup s e tick = St.Powerup (plus tick 200)
-leads T.Powered s e tick = St.Powered
-leads T.Enabled s e tick = St.Enabled
-leads T.Tripped s e tick = St.Tripped (tripOf e)
-leads T.Powerdown s e tick = St.Powerdown (plus tick 500)
-leads T.Blocked s e tick = St.Blocked (faultOf s e)
+abbrev pub leads : Shape → States → Events → ℕ → Option States
+leads T.Off s e tick = some St.Off
+leads T.Powerup s e tick = some (St.Powerup (plus tick 200))
+leads T.Powered s e tick = some St.Powered
+leads T.Enabled s e tick = some St.Enabled
+leads T.Tripped s e tick = given (λ (i : Interlock). St.Tripped i) (tripOf e)
+leads T.Powerdown s e tick = some (St.Powerdown (plus tick 500))
+leads T.Blocked s e tick = given (λ (f : ChannelFault). St.Blocked (faultOf s f)) (newFault e)
 
 unfoldable pub spoken : List Line → RfChannel → Events → ℕ → Bool → Plan
 spoken [] c e tick watchdog = NoTransition
 spoken ((from + on ⟦ guard ⟧ action ⇒ to) ∷ lines) c e tick watchdog =
-    cond (eqb (shapeNumber from) (shapeNumber (shapeOf (c .state))) && eqb (nameNumber on) (nameNumber (nameOf e)))
-    (cond (passes guard c tick watchdog) (Go action (leads to (c .state) e tick)) GuardFalse)
-    (spoken lines c e tick watchdog)
+    cond (for from on (c .state) e) (meant action (passes guard c tick watchdog) (leads to (c .state) e tick)) (spoken lines c e tick watchdog)
 
 -- ---- what is shown on the domain
 
--- a deadline is at most 500 ms away from the last tick
+-- a deadline, where there is one, is at most 500 ms away from the last tick
+abbrev pub Near : ℕ → States → Type 0
+Near last s = IfAny (λ (d : ℕ). d ≤ plus last 500) (deadlineOf s)
+
 unfoldable pub Sane : ℕ → Slot → Type 0
 Sane last S.Empty = Unit
 Sane last (S.Halted cause) = Unit
-Sane last (S.Channel c) = deadlineOf (c .state) ≤ plus last 500
+Sane last (S.Channel c) = Near last (c .state)
 
 -- after any calls in the domain, for every slot's channel: whatever comes next, at whatever tick of the domain, does what the table says with a plain clock
 unfoldable pub SpeaksPlainly : ℕ → Slot → Type 0
@@ -110,7 +115,7 @@ Wide = (calls : List Asked) → Ordered 0 calls → InDomain (history []) 0 call
 unfoldable pub LeadsNear : ℕ → Plan → Type 0
 LeadsNear tick NoTransition = Unit
 LeadsNear tick GuardFalse = Unit
-LeadsNear tick (Go action state) = deadlineOf state ≤ plus tick 500
+LeadsNear tick (Go action state) = Near tick state
 
 abbrev pub PlainEvents : Type 0
-PlainEvents = (c : RfChannel) (e : Events) (tick : ℕ) (watchdog : Bool) → deadlineOf (c .state) ≤ plus tick 500 → tick < 2 ^ 31 → (planned table c e tick watchdog ≡ spoken table c e tick watchdog) × LeadsNear tick (planned table c e tick watchdog)
+PlainEvents = (c : RfChannel) (e : Events) (tick : ℕ) (watchdog : Bool) → Near tick (c .state) → tick < 2 ^ 31 → (planned table c e tick watchdog ≡ spoken table c e tick watchdog) × LeadsNear tick (planned table c e tick watchdog)
