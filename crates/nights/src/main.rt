@@ -1,4 +1,6 @@
 // Replays the traces that its words name, one after the other, each under its name.
+mod turns;
+
 use libc::STDOUT_FILENO;
 
 fn replay(path: &[u8]) {
@@ -9,7 +11,7 @@ fn replay(path: &[u8]) {
         os::fail(path);
         return;
     }
-    replay_run::run(trace, STDOUT_FILENO);
+    turns::run(trace);
     libc::close(trace);
 }
 

@@ -23,7 +23,7 @@ use Rattle.replay_feed.proofs.finish.Kinds as finish-kinds
 use Rattle.replay_feed.proofs.finish.Reads as finish-reads
 
 -- what is written stands in front, and what stood behind it stays
-wrote-only : {o o′ o″ : List ℕ} {n r s : ℕ} {text : List ℕ} → Wrote o n o′ r text → Wrote o n o″ s text → (o′ ≡ o″) × (r ≡ s)
+pub wrote-only : {o o′ o″ : List ℕ} {n r s : ℕ} {text : List ℕ} → Wrote o n o′ r text → Wrote o n o″ s text → (o′ ≡ o″) × (r ≡ s)
 wrote-only {o} {o′} {o″} {n} {r} {s} {text} v w =
     let place : r ≡ s = v .past ∙ sym (w .past) in
     let first : o′ ≡ (take n o ++ text) ++ drop r o = sym (take-append-drop r o′) ∙ rw (v .front, v .rest) in
@@ -41,14 +41,20 @@ fed-same r r′ e f = ap (λ (x : Replay). fed x (r .past)) e ∙ ap (fed (r′ 
 replay-of : Reading → Replay
 replay-of x = record { rack = x .place .state .rack; used = x .place .state .used; line = x .place .line; held = x .held }
 
+module _ {r r′ : Replay} {log log′ hold hold′ : List ℕ} {now : Reading} where
+  pub reading-only : reading r log hold ≡ now → reading r′ log′ hold′ ≡ now → (log ≡ log′) × (hold ≡ hold′) × (r ≡ r′)
+  unfolding replay-of
+  reading-only e f =
+      let same : reading r log hold ≡ reading r′ log′ hold′ = e ∙ sym f in
+      (ap (λ (x : Reading). x .place .state .log) same, ap (λ (x : Reading). x .hold) same, ap replay-of same)
+
 module _ {r r′ : Fed} {log log′ hold hold′ o out out′ text : List ℕ} {now : Reading} where
   fed-only : reading (r .replay) log hold ≡ now → Wrote o 0 out (r .past) text → reading (r′ .replay) log′ hold′ ≡ now → Wrote o 0 out′ (r′ .past) text
       → (log ≡ log′) × (hold ≡ hold′) × (out ≡ out′) × (r ≡ r′)
-  unfolding replay-of
   fed-only e v f w =
-      let same : reading (r .replay) log hold ≡ reading (r′ .replay) log′ hold′ = e ∙ sym f in
+      let read = reading-only e f in
       let written = wrote-only v w in
-      (ap (λ (x : Reading). x .place .state .log) same, ap (λ (x : Reading). x .hold) same, written .0, fed-same r r′ (ap replay-of same) (written .1))
+      (read .0, read .1, written .0, fed-same r r′ (read .2) (written .1))
 
 module _ (κs : Lfts 1) (a : ArgsD begin.signature κs) (r r′ : ResD begin.signature κs) (s s′ : AtExit (endedOf 1 begin-kinds.ps begin-kinds.r) κs) where
   pub only-begin : begin-reads.Post κs a r s → begin-reads.Post κs a r′ s′ → (now (s .0) ≡ now (s′ .0)) × (r ≡ r′)

@@ -12,7 +12,7 @@ const LF: u8 = 10;
 
 // Of what it is lent a call takes at most this much: each byte may be a line, and a line of output has at
 // most 96 bytes.
-const CHUNK: usize = 1024;
+pub const CHUNK: usize = 1024;
 
 // What goes on from chunk to chunk: the rack, the rows used, the number of the line that is being read, where
 // the header has 0, and how many of its bytes are held.

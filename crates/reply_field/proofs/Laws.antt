@@ -9,7 +9,7 @@ use lib.Dec.{leb, eqb}
 use lib.ListN.{length, getD, set, drop, replicate, drop-of-length-le, length-append, length-replicate, List·getD-eq-default}
 use lib.Seq.{drop-cons, ext-getD, getD-set-same, getD-set-other}
 use borrow.Author.Count.{below-more}
-use borrow.Author.Tests.{leb-true, eqb-true, le-leb, lt-leb}
+use borrow.Author.Tests.{leb-true, leb-false, eqb-true, le-leb, lt-leb}
 use Rattle.field.specs.Field.{isDigit, isHex, hexOf}
 use Rattle.reply_field.specs.Replies.{pairsOf, allHex, fitsOf, paddedOf}
 
@@ -131,19 +131,31 @@ padded-length l h =
 
 -- ---- byte by byte
 
--- the first i bytes are those of the column l
-abbrev pub Filled : List ℕ → ℕ → List ℕ → Type 0
-Filled l i out = (k : ℕ) → k < i → getD out k 0 ≡ getD (pairsOf l) k 0
+-- the first i bytes are those of the column l, and zeros are behind them
+pub record Filled (l : List ℕ) (i : ℕ) (out : List ℕ) : Type 0 where
+  pub front : (k : ℕ) → k < i → getD out k 0 ≡ getD (pairsOf l) k 0
+  pub behind : (k : ℕ) → i ≤ k → getD out k 0 ≡ 0
 
-pub filled-none : (l out : List ℕ) → Filled l 0 out
-filled-none l out k h = absurd (omega arith)
+pub filled-none : (l : List ℕ) {out : List ℕ} → out ≡ replicate 135 0 → Filled l 0 out
+filled-none l e = record { front = λ k h. absurd (omega arith); behind = λ k h. rw e (zeros 135 k) }
 
 pub filled-more : (l out : List ℕ) (i b : ℕ) → i < length out → b ≡ getD (pairsOf l) i 0 → Filled l i out → Filled l (i + 1) (set out i b)
-filled-more l out i b h e f =
-    below-more (λ (k : ℕ). getD (set out i b) k 0 ≡ getD (pairsOf l) k 0) i
-    (λ k s. getD-set-other out i k b 0 (λ (q : k ≡ i). omega arith) ∙ f k s)
-    (getD-set-same out i b 0 h ∙ e)
+filled-more l out i b h e f = record {
+  front =
+      below-more (λ (k : ℕ). getD (set out i b) k 0 ≡ getD (pairsOf l) k 0) i
+      (λ k s. getD-set-other out i k b 0 (λ (q : k ≡ i). omega arith) ∙ f .front k s)
+      (getD-set-same out i b 0 h ∙ e);
+  behind = λ k s. getD-set-other out i k b 0 (λ (q : k ≡ i). omega arith) ∙ f .behind k (omega arith);
+}
 
-pub filled-all : (l out : List ℕ) (i : ℕ) → fitsOf l ≡ true → length out ≡ 135 → 135 ≤ i → Filled l i out → out ≡ paddedOf l
+-- behind the column's last pair both are 0
+pub filled-all : (l out : List ℕ) (i : ℕ) → fitsOf l ≡ true → length out ≡ 135 → length l ≤ 2 * i → Filled l i out → out ≡ paddedOf l
 unfolding paddedOf
-filled-all l out i h e m f = ext-getD 0 out (paddedOf l) (e ∙ sym (padded-length l h)) (λ k s. f k (omega arith) ∙ sym (behind (pairsOf l) (135 - length (pairsOf l)) k))
+filled-all l out i h e m f = ext-getD 0 out (paddedOf l) (e ∙ sym (padded-length l h)) (λ k s. at k ∙ sym (behind (pairsOf l) (135 - length (pairsOf l)) k))
+  where
+    at : (k : ℕ) → getD out k 0 ≡ getD (pairsOf l) k 0
+    at k = go (leb i k) refl
+      where
+        go : (t : Bool) → leb i k ≡ t → getD out k 0 ≡ getD (pairsOf l) k 0
+        go true past = f .behind k (leb-true i k past) ∙ sym (pairs-past l k (omega (arith, leb-true i k past)))
+        go false short = f .front k (leb-false i k short)

@@ -3,7 +3,7 @@
 ghost use mathlib.Core.Path.{_≡_};
 ghost use mathlib.Core.Bool.{true};
 ghost use Prim.Native.Nat.{_+_, _*_, _<_};
-ghost use lib.ListN.{length, getD};
+ghost use lib.ListN.{length, getD, replicate};
 ghost use Rattle.field.specs.Field.{isHex, hexOf};
 ghost use Rattle.reply_field.specs.Replies.{pairsOf, allHex, fitsOf, paddedOf};
 
@@ -78,39 +78,38 @@ fn pair(high: u8, low: u8) -> u8
     16 * first + second
 }
 
-// Byte i of the replies: the pair that stands there, or 0 behind the last pair.
+// Byte i of the replies: the pair that stands there.
 fn byte_at(s: &[u8], i: usize) -> u8
-    requires { ⌜ (fitsOf (now s) ≡ true) × (i < 135) ⌝ }
+    requires { ⌜ (fitsOf (now s) ≡ true) × (2 * i < length (now s)) ⌝ }
     ensures { λ r. ⌜ r ≡ getD (pairsOf (now (s .entry))) i 0 ⌝ }
 {
     let at = 2 * i;
-    if s.len() <= at {
-        return 0;
-    }
     // The length is even, so a digit is never alone.
     let high = s[at];
     let low = s[at + 1];
     pair(high, low)
 }
 
-// Every byte is written, so what stood there before does not matter.
-fn fill_all(s: &[u8], out: &mut [u8])
-    requires { ⌜ (fitsOf (now s) ≡ true) × (length (now out) ≡ 135) ⌝ }
+// The bytes of the column, over zeros: it goes no further than the column does.
+fn fill_front(s: &[u8], out: &mut [u8])
+    requires { ⌜ (fitsOf (now s) ≡ true) × (now out ≡ replicate 135 0) ⌝ }
     ensures { λ r. ⌜ now (out .exit) ≡ paddedOf (now (s .entry)) ⌝ }
 {
+    let n = s.len() / 2;
     let mut i = 0;
-    while i < 135 {
+    while i < n {
         let b = byte_at(s, i);
         out[i] = b;
         i += 1;
     }
 }
 
-// Fills the replies of a column that fits. The array says its length by its type, so the caller need
-// not show it.
+// Fills the replies of a column that fits, whatever the array held. The array says its length by its type,
+// so the caller need not show it.
 pub fn fill(s: &[u8], out: &mut [u8; 135])
     requires { ⌜ fitsOf (now s) ≡ true ⌝ }
     ensures { λ r. ⌜ now (out .exit) ≡ paddedOf (now (s .entry)) ⌝ }
 {
-    fill_all(s, out);
+    *out = [0; 135];
+    fill_front(s, out);
 }
