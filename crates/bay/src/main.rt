@@ -1,0 +1,15 @@
+// Drives the bay by scripts, and prints each call's answer, what stands in the slot and the rows that were added.
+mod answers;
+mod channel;
+mod desk;
+mod edges;
+mod given;
+mod panel;
+mod script;
+mod show;
+
+fn main() {
+    channel::all();
+    answers::all();
+    edges::all();
+}
