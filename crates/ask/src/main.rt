@@ -1,5 +1,12 @@
 // Asks the drivers and the transforms one question a line, so that they can be compared with another implementation:
 // reads the questions on standard input and writes an answer to each on standard output.
+mod answer;
+mod chips;
+mod monitor;
+mod question;
+mod result;
+mod words;
+
 use libc::STDERR_FILENO;
 use libc::STDIN_FILENO;
 use libc::STDOUT_FILENO;
@@ -14,7 +21,7 @@ struct Reading {
 
 // Answers a line, and tells whether the answer is written.
 fn pass(s: &[u8], out: &mut [u8]) -> bool {
-    let past = ask_answer::pass(s, out);
+    let past = answer::pass(s, out);
     let text = line_hold::front(out, past);
     let sent = io::write_all(STDOUT_FILENO, text);
     if !sent {
@@ -36,7 +43,7 @@ fn feed(held: usize, hold: &mut [u8; 514], chunk: &[u8], out: &mut [u8]) -> Read
     let mut start = 0;
     while start < chunk.len() {
         let end = bytes::scan::find(chunk, start, chunk.len(), LF);
-        held = line_more::keep(hold, held, &chunk[start..end]);
+        held = line_hold::keep_part(hold, held, &chunk[start..end]);
         if end == chunk.len() {
             return Reading { held, more: true };
         }

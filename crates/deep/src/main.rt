@@ -1,6 +1,11 @@
 // Makes the calls of traces and writes all that comes of each, so that the rack can be compared call by call with
 // another implementation: reads lines on standard input and writes a line for each on standard output.
-use deep_feed::Reading;
+mod answer;
+mod beside;
+mod feed;
+mod line;
+
+use crate::feed::Reading;
 use libc::STDERR_FILENO;
 use libc::STDIN_FILENO;
 
@@ -25,16 +30,16 @@ fn turn(
     }
     let n = io::count(got, chunk);
     if n == 0 {
-        return deep_feed::finish(place, held, log, hold, out);
+        return feed::finish(place, held, log, hold, out);
     }
     let part = line_hold::front(chunk, n);
-    deep_feed::feed(place, held, log, hold, part, out)
+    feed::feed(place, held, log, hold, part, out)
 }
 
 // A proved loop has to end, and nothing says that the input does: so the turns are counted down, from a number that
 // no run uses up.
 fn turns(log: &mut [u8], hold: &mut [u8; 514], chunk: &mut [u8], out: &mut [u8; 2048]) {
-    let place = deep_answer::begin();
+    let place = answer::begin();
     let mut reading = Reading {
         place,
         held: 0,

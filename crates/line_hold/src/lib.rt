@@ -3,7 +3,7 @@
 ghost use mathlib.Core.Path.{_≡_};
 ghost use Prim.Native.Nat.{_≤_, min};
 ghost use lib.ListN.{length, take};
-ghost use Rattle.line_hold.specs.Hold.{heldAfter, keptIn, endOf, withoutCr};
+ghost use Rattle.line_hold.specs.Hold.{heldAfter, keptIn, heldPast, keptPart, endOf, withoutCr};
 
 const CR: u8 = 13;
 
@@ -19,6 +19,21 @@ pub fn keep(hold: &mut [u8], held: usize, b: u8) -> usize
     }
     hold[held] = b;
     held + 1
+}
+
+// Keeps a part of a line, behind what is held of it, and answers how many bytes are held. The array says its
+// length by its type, so nothing is asked of the caller.
+pub fn keep_part(hold: &mut [u8; 514], held: usize, part: &[u8]) -> usize
+    ensures { λ r. ⌜ (r ≡ heldPast held (now (part .entry))) × (now (hold .exit) ≡ keptPart (now (hold .entry)) held (now (part .entry))) ⌝ }
+{
+    let mut held = held;
+    let mut i = 0;
+    while i < part.len() {
+        let b = part[i];
+        i += 1;
+        held = keep(hold, held, b);
+    }
+    held
 }
 
 // The first n bytes, or all where there are no more.

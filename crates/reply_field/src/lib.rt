@@ -5,7 +5,7 @@ ghost use mathlib.Core.Bool.{true};
 ghost use Prim.Native.Nat.{_+_, _*_, _<_};
 ghost use lib.ListN.{length, getD, replicate};
 ghost use Rattle.field.specs.Field.{isHex, hexOf};
-ghost use Rattle.reply_field.specs.Replies.{pairsOf, allHex, fitsOf, paddedOf};
+ghost use Rattle.reply_field.specs.Replies.{pairsOf, allHex, fitsOf, paddedOf, filledOf};
 
 // Two digits for each of 135 bytes.
 const MOST_DIGITS: usize = 270;
@@ -112,4 +112,16 @@ pub fn fill(s: &[u8], out: &mut [u8; 135])
 {
     *out = [0; 135];
     fill_front(s, out);
+}
+
+// Fills the replies of a column that is not known to fit, and answers whether it does. One that does not changes
+// nothing.
+pub fn fill_if_it_fits(s: &[u8], out: &mut [u8; 135]) -> bool
+    ensures { λ r. ⌜ (r ≡ fitsOf (now (s .entry))) × (now (out .exit) ≡ filledOf (now (s .entry)) (now (out .entry))) ⌝ }
+{
+    if fits(s) {
+        fill(s, out);
+        return true;
+    }
+    false
 }

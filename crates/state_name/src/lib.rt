@@ -33,8 +33,8 @@ fn put_tripped(out: &mut [u8], at: usize, source: Interlock) -> usize
     }
 }
 
-// A deadline is not shown.
-fn put_state(out: &mut [u8], at: usize, state: States) -> usize
+// The name of a state. A deadline is not shown.
+pub fn put_state(out: &mut [u8], at: usize, state: States) -> usize
     requires { ⌜ at + 25 ≤ length (now out) ⌝ }
     ensures { λ r. ⌜ Wrote (now (out .entry)) at (now (out .exit)) r (bytesOf (stateName state)) ⌝ }
 {

@@ -7,6 +7,7 @@
 //! - Out: `N,bad`, or `N,answer,state,power,rf,rows` as in document 01 and then
 //!   - cause: beside answer 14, 0 for a panic that document 01 has no cause for
 //!   - deadline: of Powerup and Powerdown
+//!   - state told: of a status, the state that stands in it
 //!   - flags: update: powered, RF disabled, blocked; status: reflected overdrive,
 //!     output overdrive, alert
 //!   - numbers: of a status, seven f32 patterns in document 01's order
@@ -69,7 +70,7 @@ pub fn columns(slot: &Slot, used: usize, report: &Report) -> String {
     )
 }
 
-/// `cause,deadline,flags,numbers,settings,log`.
+/// `cause,deadline,state told,flags,numbers,settings,log`.
 fn more_columns(slot: &Slot, report: &Report) -> String {
     let cause = match report.answer {
         14 => report.cause.to_string(),
@@ -80,8 +81,9 @@ fn more_columns(slot: &Slot, report: &Report) -> String {
     let numbers = report.numbers.iter().flatten();
     let numbers = numbers.map(|x| hex::write_float(*x));
     format!(
-        "{cause},{},{},{},{},{}",
+        "{cause},{},{},{},{},{},{}",
         slot.deadline(),
+        report.told.unwrap_or_default(),
         flags.collect::<String>(),
         numbers.collect::<String>(),
         slot.settings(),

@@ -50,6 +50,8 @@ pub struct Report {
     pub cause: u8,
     /// What the original said as it panicked.
     pub panic: String,
+    /// Status: the state that it tells.
+    pub told: Option<&'static str>,
     /// Update: powered, RF disabled, blocked. Status: reflected overdrive,
     /// output overdrive, alert.
     pub flags: Option<[bool; 3]>,
@@ -164,8 +166,8 @@ impl Slot {
                     "reflected_power",
                     "output_power",
                 ];
-                assert!(status.field("state").name() == self.state());
                 return Report {
+                    told: Some(status.field("state").name()),
                     flags: Some(flags.map(|f| status.field(f).flag())),
                     numbers: Some(numbers.map(|n| status.field(n).float())),
                     ..Report::default()
@@ -255,9 +257,10 @@ impl Slot {
 /// The original's way to a channel: pins, then devices, then thresholds.
 fn start(settings: ChannelSettings, given: &Given) -> Option<RfChannel> {
     STORED.set(Some(settings));
-    // At the start the temperature chip only has to be there: the presence
-    // flag, not the call's temperature, says whether it is.
-    bench::with(|b| b.given.temperature = given.present.then_some(25.0));
+    // At the start the temperature chip only has to be there: the column of
+    // presence, not the call's temperature, says whether it is.
+    let answers = given.present[bench::THERMOMETER];
+    bench::with(|b| b.given.temperature = answers.then_some(25.0));
     let pins = ChannelPins::new(
         ErasedPin::on_bench(bench::ENABLE_POWER),
         ErasedPin::on_bench(bench::ALERT),

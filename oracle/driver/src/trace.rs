@@ -23,8 +23,9 @@ pub struct Line {
 }
 
 /// The line without its end, or none if it does not fit. With `deep`, three
-/// more columns may follow: the presence flag of a start, and the millivolts of
-/// the output and the reflected power detector.
+/// more columns may follow: which chips of the module answer at a start (1 both,
+/// 0 neither, E the EEPROM alone, T the temperature chip alone), and the
+/// millivolts of the output and the reflected power detector.
 pub fn line(text: &[u8], deep: bool) -> Option<Line> {
     if text.len() > 512 {
         return None;
@@ -35,11 +36,11 @@ pub fn line(text: &[u8], deep: bool) -> Option<Line> {
         return None;
     };
     let (present, millivolts) = match more {
-        [] => (true, [0, 0]),
+        [] => ([true, true], [0, 0]),
         [present, output, reflected] if deep => {
             let millivolts = |text| decimal(text)?.try_into().ok();
             (
-                flag(present)?,
+                self::present(present)?,
                 [millivolts(output)?, millivolts(reflected)?],
             )
         }
@@ -82,6 +83,17 @@ fn flag(text: &str) -> Option<bool> {
     match text {
         "0" => Some(false),
         "1" => Some(true),
+        _ => None,
+    }
+}
+
+/// Whether the EEPROM, and whether the temperature chip answers.
+fn present(text: &str) -> Option<[bool; 2]> {
+    match text {
+        "1" => Some([true, true]),
+        "0" => Some([false, false]),
+        "E" => Some([true, false]),
+        "T" => Some([false, true]),
         _ => None,
     }
 }

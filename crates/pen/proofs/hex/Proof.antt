@@ -1,19 +1,22 @@
--- `pen::hex` is safe and ends. The buffer keeps its length; what is left of the text is the measure. Assumes nothing.
+-- `pen::hex` meets its contract. The loop's invariant: the first i bytes are written as digits. The measure is what is left of the bytes. Assumes nothing.
 use Prim.Native.Nat.{_-_, _≤_}
 use mathlib.Core.Path.{_≡_}
-use lib.ListN.{length}
+use lib.ListN.{length, take}
+use lib.Seq.{take-all}
 use borrow.Author.Needs.{needs}
+use Rattle.pen.specs.Ink.{Inked, pairText, hexText}
+use Rattle.pen.proofs.Laws.{each-none, each-more}
 use Rattle.pen.proofs.hex.Statement.{statement}
 use Rattle.pen.proofs.hex.Tie as tie
 
 abbrev Inv-loop : tie.InvT-loop
-Inv-loop out₀ at s past₀ i₀ out past i = (i ≤ length s) × (length out ≡ length out₀)
+Inv-loop out₀ at s past₀ i₀ out past i = (i ≤ length s) × (length out ≡ length out₀) × Inked out₀ at out past (hexText (take i s))
 
 abbrev μ-loop : tie.MeasureT-loop
 μ-loop out₀ at s past₀ i₀ out past i = length s - i
 
 loop-holds : tie.Need-loop-holds Inv-loop μ-loop
-loop-holds c = search needs
+loop-holds c = (search needs, search needs, each-none pairText (c .before .before .args .out .now) (c .before .before .args .at))
 
 shared-slice-read-b : tie.Need-shared-slice-read-b Inv-loop μ-loop
 shared-slice-read-b c = search needs
@@ -28,13 +31,19 @@ loop-less : tie.Need-loop-less Inv-loop μ-loop
 loop-less c = search needs
 
 loop-again : tie.Need-loop-again Inv-loop μ-loop
-loop-again c = search needs
+loop-again c =
+    let start = c .before .before .before .before .before .before .before .before .before in
+    let turn = c .before .before .before .before .before .before .loop in
+    (search needs, search needs, each-more pairText 0 (start .args .s .now) (turn .i) (search needs) (turn .inv .2) (c .before .before .pair .ensures))
 
 same-length : tie.Need-same-length Inv-loop μ-loop
 same-length c = search needs
 
 returns : tie.Need-returns Inv-loop μ-loop
-returns c = search needs
+returns c =
+    let s = c .before .before .before .before .args .s .now in
+    let turn = c .before .loop in
+    rw (take-all (turn .i) s (search needs)) at (turn .inv .2)
 
 pub hex-spec : {M : Type 1} → statement M
 hex-spec =

@@ -16,6 +16,9 @@ pub const ALERT: u8 = 0;
 pub const OUTPUT_OVERDRIVE: u8 = 1;
 pub const REFLECTED_OVERDRIVE: u8 = 2;
 
+pub const EEPROM: usize = 0;
+pub const THERMOMETER: usize = 1;
+
 pub const OUTPUT_DETECTOR: usize = 0;
 pub const REFLECTED_DETECTOR: usize = 1;
 
@@ -28,8 +31,8 @@ pub struct Given {
     pub watchdog: bool,
     /// `None` is a temperature that failed.
     pub temperature: Option<f32>,
-    /// EEPROM and temperature chip answer at the start.
-    pub present: bool,
+    /// The EEPROM, and the temperature chip, answer at the start.
+    pub present: [bool; 2],
     /// Nine bytes for each transfer: a status and eight data bytes.
     pub replies: [u8; 135],
     /// Output and reflected power detector.
@@ -43,7 +46,7 @@ impl Default for Given {
             inputs: [true, false, false],
             watchdog: false,
             temperature: Some(25.0),
-            present: true,
+            present: [true, true],
             replies: [0; 135],
             millivolts: [0; 2],
         }

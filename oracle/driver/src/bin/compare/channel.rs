@@ -1,7 +1,7 @@
 //! Channels: traces for both sides, compared line by line.
 
 use crate::{
-    child,
+    child, probes,
     twist::CALLS,
     walk::{Line, Plan, Trace, HEADER, STATES},
     write_sample, Progress, Table, ENOUGH,
@@ -16,13 +16,15 @@ pub fn run(seed: u64, calls: u64, command: &[String]) -> io::Result<bool> {
     let (to, batches) = sync_channel::<Vec<Trace>>(1);
     let maker = thread::spawn(move || {
         let plan = Plan::new(seed, false);
-        let (mut made, mut number) = (0, 0);
+        let mut traces = probes::all()
+            .into_iter()
+            .chain((0..).map(|n| plan.trace(n)));
+        let mut made = 0;
         while made < calls {
             let (mut batch, end) = (Vec::new(), calls.min(made + BATCH));
             while made < end {
-                let trace = plan.trace(number);
+                let trace = traces.next().expect("there is no last one");
                 made += trace.lines.iter().filter(|l| l.call.is_some()).count() as u64;
-                number += 1;
                 batch.push(trace);
             }
             if to.send(batch).is_err() {
@@ -46,11 +48,11 @@ pub fn run(seed: u64, calls: u64, command: &[String]) -> io::Result<bool> {
                 if same && answer != line.answer {
                     // Later lines of the trace follow from this one.
                     same = false;
-                    let name = format!("difference-{seed}-{}.csv", trace.number);
+                    let name = format!("difference-{seed}-{}.csv", trace.name.replace(' ', "-"));
                     fs::write(&name, trace.input())?;
                     eprintln!(
                         "\nseed {seed}, trace {}, line {}: {name}",
-                        trace.number,
+                        trace.name,
                         i + 1
                     );
                     eprintln!("  input    {}", child::shown(&line.text));
@@ -90,8 +92,14 @@ pub fn run(seed: u64, calls: u64, command: &[String]) -> io::Result<bool> {
 
 impl Trace {
     fn input(&self) -> Vec<u8> {
-        let lines = self.lines.iter().flat_map(|l| l.text.iter());
-        HEADER.iter().chain(lines).copied().collect()
+        // What a trace chosen by hand is about stands in its header.
+        let about = match self.name.parse::<u64>() {
+            Ok(_) => String::new(),
+            Err(_) => format!(": {}", self.name),
+        };
+        let mut all = format!("{HEADER}{about}\n").into_bytes();
+        self.lines.iter().for_each(|l| all.extend(&l.text));
+        all
     }
 }
 
@@ -111,8 +119,8 @@ fn count(table: &mut Table, pairs: &mut BTreeSet<(&'static str, String)>, line: 
     if call.at_deadline {
         table.add(ALL, "calls at a deadline's tick", 1);
     }
-    table.add(ALL, "numbers", answer[9].len() as u64 / 8);
-    table.add(ALL, "rows", answer[11].len() as u64 / 32);
+    table.add(ALL, "numbers", answer[10].len() as u64 / 8);
+    table.add(ALL, "rows", answer[12].len() as u64 / 32);
     table.add("by call", &name, 1);
     table.add("by answer", &format!("{:>2}", answer[1]), 1);
     table.add("by state after the call", &answer[2], 1);
@@ -133,8 +141,9 @@ fn wanted() -> BTreeSet<String> {
     let causes = [1, 2, 3, 4, 5, 6].map(|c| format!("cause {c}"));
     let states = STATES.map(|s| format!("state {s}"));
     let calls = CALLS.map(|c| format!("call {c}"));
+    let told = STATES[2..].iter().map(|s| format!("told {s}"));
     let all = answers.into_iter().chain(causes).chain(states).chain(calls);
-    all.chain(["bad".into()]).collect()
+    all.chain(told).chain(["bad".into()]).collect()
 }
 
 /// What a trace shows: these, and which call met which state with which answer.
@@ -153,15 +162,16 @@ fn shows(trace: &Trace) -> BTreeSet<String> {
         ));
         all.insert(format!("answer {}", answer[1]));
         all.insert(format!("state {}", answer[2]));
+        all.insert(format!("told {}", answer[8]));
         all.insert(format!("call {name}"));
     }
     all
 }
 
-/// A sample of some 2,500 lines: of 400 traces, time after time the one that
-/// shows most that is not yet shown.
+/// A sample of some 2,800 lines: those chosen by hand, and then, of 400 traces,
+/// time after time the one that shows most that is not yet shown.
 pub fn keep(seed: u64, folder: &Path) -> io::Result<bool> {
-    const LINES: usize = 2_500;
+    const LINES: usize = 2_800;
     let plan = Plan::new(seed, true);
     let first = plan.directed();
     let mut traces: Vec<_> = (0..20)
@@ -172,6 +182,15 @@ pub fn keep(seed: u64, folder: &Path) -> io::Result<bool> {
     let wanted = wanted();
     let mut shown = BTreeSet::new();
     let (mut input, mut answers, mut lines) = (Vec::new(), Vec::new(), 0);
+    let mut take = |trace: &Trace, lines: &mut usize| {
+        *lines += trace.lines.len();
+        input.extend(trace.input());
+        trace.lines.iter().for_each(|l| answers.extend(&l.answer));
+    };
+    for trace in probes::all() {
+        shown.extend(shows(&trace));
+        take(&trace, &mut lines);
+    }
     loop {
         let fit = traces
             .iter()
@@ -187,9 +206,7 @@ pub fn keep(seed: u64, folder: &Path) -> io::Result<bool> {
         };
         let (all, trace) = traces.swap_remove(best);
         shown.extend(all);
-        lines += trace.lines.len();
-        input.extend(trace.input());
-        trace.lines.iter().for_each(|l| answers.extend(&l.answer));
+        take(&trace, &mut lines);
     }
     for missing in wanted.difference(&shown) {
         return Err(io::Error::other(format!("the sample has no {missing}")));

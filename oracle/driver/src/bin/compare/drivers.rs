@@ -88,16 +88,19 @@ fn count(table: &mut Table, asked: &Asked) {
     table.add("by question and result", &format!("{name}: {result}"), 1);
 }
 
-/// A sample of some 3,000 questions: of every kind as many as there are, but no
-/// more than some, each of them with the same chance.
+/// The kind of question of which none is left out of a sample.
+const EDGE: &str = "edges";
+
+/// A sample of some 3,000 questions: all edges first, and then of every kind as
+/// many as there are, but no more than some, each of them with the same chance.
 pub fn keep(seed: u64, folder: &Path) -> io::Result<bool> {
-    const OF_A_KIND: usize = 165;
+    const OF_A_KIND: usize = 160;
     let mut random = Random::new(seed, u64::MAX);
     let mut kinds: BTreeMap<&str, (usize, Vec<(usize, Asked)>)> = BTreeMap::new();
     all(seed, 20_000, &mut |kind, asked| {
         let (seen, kept) = kinds.entry(kind).or_default();
         *seen += 1;
-        if kept.len() < OF_A_KIND {
+        if kept.len() < OF_A_KIND || kind == EDGE {
             kept.push((*seen, asked));
         } else if random.below(*seen) < OF_A_KIND {
             kept[random.below(OF_A_KIND)] = (*seen, asked);
@@ -105,7 +108,8 @@ pub fn keep(seed: u64, folder: &Path) -> io::Result<bool> {
         true
     });
     let (mut input, mut answers, mut lines) = (String::new(), String::new(), 0);
-    for (_, (_, mut kept)) in kinds {
+    let edges = kinds.remove(EDGE).into_iter();
+    for (_, mut kept) in edges.chain(kinds.into_values()) {
         kept.sort_by_key(|(place, _)| *place);
         for (_, asked) in kept {
             input += &(asked.line + "\n");
@@ -127,6 +131,8 @@ fn all(seed: u64, questions: u64, sink: &mut dyn FnMut(&'static str, Asked) -> b
         open: true,
         sink,
     };
+    asker.zeros();
+    asker.bits();
     asker.words();
     asker.failures();
     asker.converters();
@@ -159,6 +165,55 @@ impl Asker<'_> {
         if self.open {
             let answer = answer(&mut self.chips, &line);
             self.open = (self.sink)(kind, Asked { line, answer });
+        }
+    }
+
+    /// Zeros and ones of either sign, and what cancels: the sign of a zero that
+    /// comes out.
+    fn zeros(&mut self) {
+        let signed = |x: f32| [x.to_bits(), (-x).to_bits()];
+        for slope in signed(1.0) {
+            for offset in [signed(0.0), signed(1.0)].concat() {
+                for x in [signed(0.0), signed(1.0)].concat() {
+                    let words = format!("{slope:08X} {offset:08X} {x:08X}");
+                    self.ask(EDGE, format!("map {words}"));
+                    self.ask(EDGE, format!("invert {words}"));
+                }
+            }
+        }
+    }
+
+    /// Each bit of a word alone, and none and all; each bit of an alarm that stands
+    /// and is enabled, and bits that are not both.
+    fn bits(&mut self) {
+        let words = (0..16).map(|bit| 1 << bit).chain([0, 0xFFFF]);
+        for data in words.map(u16::to_be_bytes) {
+            let line = format!("mcp3221 voltage {}", reply(0, &data));
+            self.ask(EDGE, line);
+            self.ask(EDGE, format!("ads7924 voltage 3 {}", reply(1, &data)));
+        }
+        let alarms = [0x11, 0x22, 0x44, 0x88, 0x0F, 0xF0, 0x5A, 0xA5, 0x00, 0xFF];
+        for byte in alarms {
+            self.ask(EDGE, format!("ads7924 alarm {}", reply(0, &[byte])));
+        }
+        for channel in 0..4 {
+            for byte in [0x00, 0xFF] {
+                let head = format!("ads7924 thresholds {channel} 3F000000 40000000");
+                self.ask(EDGE, format!("{head} {}", reply(1, &[byte])));
+            }
+        }
+    }
+
+    /// The first and the last code of a converter, and where it refuses: the last
+    /// pattern on this side and the first on the other.
+    fn ends(&mut self, edges: &[u32], asks: &dyn Fn(u32) -> Vec<String>) {
+        let ends = [edges[0], edges[edges.len() - 2], edges[edges.len() - 1]];
+        for bits in ends.into_iter().flat_map(|edge| [edge - 1, edge]) {
+            asks(bits).into_iter().for_each(|line| self.ask(EDGE, line));
+        }
+        // Zeros, what is below, and no number.
+        for bits in [0, 0x8000_0000, 1, 0x8000_0001, 0x7FC0_0000, 0xFF80_0000] {
+            asks(bits).into_iter().for_each(|line| self.ask(EDGE, line));
         }
     }
 
@@ -270,7 +325,9 @@ impl Asker<'_> {
     /// are out of the ordinary.
     fn converters(&mut self) {
         let code = |row: &[u8; 16]| u16::from_be_bytes([row[6], row[7]]) as u32 >> 4;
-        for edge in self.edges("ad5627 set B x", 4095, code) {
+        let edges = self.edges("ad5627 set B x", 4095, code);
+        self.ends(&edges, &|x| vec![format!("ad5627 set B {x:08X}")]);
+        for edge in edges {
             for bits in edge - 2..=edge + 1 {
                 for output in ["A", "B", "AB"] {
                     self.ask("ad5627 codes", format!("ad5627 set {output} {bits:08X}"));
@@ -278,7 +335,9 @@ impl Asker<'_> {
             }
         }
         let code = |row: &[u8; 16]| u16::from_be_bytes([row[5], row[6]]) as u32;
-        for edge in self.edges("dac7571 set x", 4095, code) {
+        let edges = self.edges("dac7571 set x", 4095, code);
+        self.ends(&edges, &|x| vec![format!("dac7571 set {x:08X}")]);
+        for edge in edges {
             for bits in edge - 2..=edge + 1 {
                 self.ask("dac7571 codes", format!("dac7571 set {bits:08X}"));
             }
@@ -286,6 +345,11 @@ impl Asker<'_> {
         // What is sent is the code without its last four bits.
         let edges = self.edges("ads7924 thresholds 1 00000000 x", 255, |row| row[6] as u32);
         let highest = edges[255] - 1;
+        self.ends(&edges, &|x| {
+            let pairs = [(0, x), (x, highest), (x, x)];
+            let line = |(low, high)| format!("ads7924 thresholds 1 {low:08X} {high:08X}");
+            pairs.map(line).into()
+        });
         for edge in edges {
             for channel in 0..4 {
                 for bits in edge - 2..=edge + 1 {

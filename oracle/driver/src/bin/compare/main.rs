@@ -19,6 +19,7 @@
 mod channel;
 mod child;
 mod drivers;
+mod probes;
 mod twist;
 mod walk;
 

@@ -8,6 +8,7 @@ pub const CALLS: [&str; 7] = [
 pub const START: usize = 0;
 pub const STARTUP: usize = 1;
 pub const UPDATE: usize = 2;
+pub const RESET: usize = 3;
 pub const STANDBY: usize = 4;
 pub const SETTINGS: usize = 5;
 pub const STATUS: usize = 6;
@@ -123,7 +124,8 @@ pub struct Input {
     pub replies: [u8; 135],
     /// Written for a start and for settings.
     pub settings: Settings,
-    pub present: bool,
+    /// Which chips answer at a start, as a trace writes it.
+    pub present: char,
     pub millivolts: [u16; 2],
 }
 
@@ -132,32 +134,61 @@ impl Input {
         self.replies[9 * place] = status;
     }
 
+    /// Nothing out of the ordinary.
+    pub fn calm(tick: u32, call: usize, settings: Settings) -> Self {
+        Input {
+            tick,
+            call,
+            temperature: Some(25f32.to_bits()),
+            pins: [true, false, false, false],
+            replies: [0; 135],
+            settings,
+            present: '1',
+            millivolts: [0, 0],
+        }
+    }
+
+    /// Bytes of the replies up to the last that is not zero.
+    fn needed(&self) -> usize {
+        let last = self.replies.iter().rposition(|b| *b != 0);
+        last.map_or(0, |last| last + 1)
+    }
+
+    /// The line, with no more than is needed.
+    pub fn plain(&self) -> String {
+        self.written("", self.needed(), false)
+    }
+
+    /// The line, now and then with more. What is left out of the replies is read
+    /// as zeros: as much as can be, all or some.
     pub fn text(&self, random: &mut Random) -> String {
-        let temperature = self.temperature.map(|bits| format!("{bits:08X}"));
-        let pins = self.pins.map(|p| if p { ",1" } else { ",0" }).concat();
-        // What is left out is read as zeros: as much as can be, all or some.
-        let needed = self.replies.iter().rposition(|b| *b != 0);
-        let needed = needed.map_or(0, |last| last + 1);
+        let needed = self.needed();
         let written = match random.below(8) {
             0 => 135,
             1 => needed + random.below(136 - needed),
             _ => needed,
         };
+        let zeros = if random.once_in(50) { "00" } else { "" };
+        self.written(zeros, written, random.once_in(4))
+    }
+
+    fn written(&self, zeros: &str, replies: usize, more: bool) -> String {
+        let temperature = self.temperature.map(|bits| format!("{bits:08X}"));
+        let pins = self.pins.map(|p| if p { ",1" } else { ",0" }).concat();
         let settings = match self.call {
             START | SETTINGS => self.settings.text(),
             _ => String::new(),
         };
         let mut text = format!(
-            "{}{},{},{}{pins},{},{settings}",
-            if random.once_in(50) { "00" } else { "" },
+            "{zeros}{},{},{}{pins},{},{settings}",
             self.tick,
             CALLS[self.call],
             temperature.unwrap_or("-".into()),
-            hex::write(&self.replies[..written]),
+            hex::write(&self.replies[..replies]),
         );
-        if !self.present || self.millivolts != [0, 0] || random.once_in(4) {
+        if self.present != '1' || self.millivolts != [0, 0] || more {
             let [output, reflected] = self.millivolts;
-            text += &format!(",{},{output},{reflected}", self.present as u8);
+            text += &format!(",{},{output},{reflected}", self.present);
         }
         text
     }
@@ -180,7 +211,8 @@ pub enum Twist {
     /// The input power's code, so far from where the power passes 20.0.
     Power(i64),
     Alarm(u8),
-    Absent,
+    /// Neither chip answers, or one alone.
+    Absent(char),
     Millivolts(u16, u16),
     /// One field of the settings, alone.
     Field(usize, u32),
@@ -203,7 +235,8 @@ pub enum Twist {
 /// Those around a call, apart from its settings. Some can't matter to it, which
 /// is to be seen too.
 pub fn around(call: usize) -> Vec<Twist> {
-    let mut all = vec![Twist::Calm, Twist::Data, Twist::Data, Twist::Absent];
+    let mut all = vec![Twist::Calm, Twist::Data, Twist::Data];
+    all.extend(['0', 'E', 'T'].map(Twist::Absent));
     all.extend((1..16).map(Twist::Pins));
     all.extend([-1, 0, 1].map(Twist::Ahead));
     all.extend([None, Some(f32::NAN.to_bits())].map(Twist::Temperature));
@@ -313,7 +346,7 @@ impl Input {
                 self.replies[9 * place + 1..][..2].copy_from_slice(&word.to_be_bytes());
             }
             Twist::Alarm(byte) => self.replies[9 * 9 + 1] = byte,
-            Twist::Absent => self.present = false,
+            Twist::Absent(who) => self.present = who,
             Twist::Millivolts(output, reflected) => self.millivolts = [output, reflected],
             Twist::Field(i, bits) => s.x[i] = bits,
             Twist::Near(i, by) => s.x[i] = near(s.float(i), by),

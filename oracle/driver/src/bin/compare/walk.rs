@@ -21,10 +21,11 @@ pub const STATES: [&str; 13] = [
     "Blocked(SupplyAlert)",
 ];
 
-pub const HEADER: &[u8] = b"tick,call,temp,alert,out,refl,dog,replies,settings\n";
+pub const HEADER: &str = "tick,call,temp,alert,out,refl,dog,replies,settings";
 
 pub struct Trace {
-    pub number: u64,
+    /// Its number, or what it is about if it was chosen by hand.
+    pub name: String,
     pub lines: Vec<Line>,
 }
 
@@ -121,22 +122,13 @@ impl Plan {
                 _ => 1000,
             },
         };
-        let mut walk = Walk {
-            random,
-            deep: Deep::new(),
-            wild,
-            plain: self.plain,
-            tick,
-            last: 0,
-            orderly: true,
-            lines: Vec::new(),
-        };
+        let mut walk = Walk::new(random, tick, wild, self.plain);
         match probes {
             Some(probes) => probes.iter().for_each(|p| walk.probe(*p)),
             None => walk.wander(),
         }
         Trace {
-            number,
+            name: number.to_string(),
             lines: walk.lines,
         }
     }
@@ -170,7 +162,34 @@ struct Walk {
     lines: Vec<Line>,
 }
 
+impl Trace {
+    /// Lines that are chosen beforehand, asked one after the other.
+    pub fn of(name: &str, lines: Vec<String>) -> Self {
+        let mut walk = Walk::new(Random::new(0, 0), 0, true, true);
+        lines
+            .into_iter()
+            .for_each(|l| walk.send_text(l.into_bytes()));
+        Trace {
+            name: name.into(),
+            lines: walk.lines,
+        }
+    }
+}
+
 impl Walk {
+    fn new(random: Random, tick: u32, wild: bool, plain: bool) -> Self {
+        Walk {
+            random,
+            deep: Deep::new(),
+            wild,
+            plain,
+            tick,
+            last: 0,
+            orderly: true,
+            lines: Vec::new(),
+        }
+    }
+
     fn state(&self) -> &'static str {
         self.deep.slot.state()
     }
@@ -191,22 +210,15 @@ impl Walk {
     /// Nothing out of the ordinary, and a deadline, if there is one, just late.
     fn calm(&mut self, call: usize) -> Input {
         let now = self.now();
-        Input {
-            tick: match now.deadline {
-                Some(deadline) => deadline.wrapping_add(1),
-                None => self.tick.wrapping_add(self.random.below(3) as u32),
-            },
-            call,
-            temperature: Some(25f32.to_bits()),
-            pins: [true, false, false, false],
-            replies: [0; 135],
-            settings: match call {
-                twist::START => Settings::good(&mut self.random),
-                _ => now.settings,
-            },
-            present: true,
-            millivolts: [0, 0],
-        }
+        let tick = match now.deadline {
+            Some(deadline) => deadline.wrapping_add(1),
+            None => self.tick.wrapping_add(self.random.below(3) as u32),
+        };
+        let settings = match call {
+            twist::START => Settings::good(&mut self.random),
+            _ => now.settings,
+        };
+        Input::calm(tick, call, settings)
     }
 
     fn send(&mut self, input: Input) {
@@ -314,7 +326,7 @@ impl Walk {
                 _ => 2,
             };
             match wanted {
-                "Empty" if !live => input.present = false,
+                "Empty" if !live => input.present = self.random.pick(&['0', 'E', 'T']),
                 "Halted" if !live => input.fail(self.random.below(10), 1),
                 "Empty" | "Halted" => input.temperature = None,
                 "Blocked(OverTemperature)" if live => input.temperature = Some(70f32.to_bits()),

@@ -1,0 +1,2 @@
+-- Laws of what is written into a buffer.
+pub mod Laws
