@@ -1,4 +1,4 @@
--- Every decimal constant is the nearest f32 (`decimals`): antt computes the rounding of each, and that rounding is the one of `Rounded`. Assumes nothing.
+-- Every decimal constant is the nearest f32 (`nearest-f32`): antt computes the rounding of each, and that rounding is the one of `Rounded`. Assumes nothing.
 use mathlib.Core.Path.{_≡_, refl, sym, ap, subst}
 use Prim.Native.Nat.{ℕ, zero, suc, _*_, _^_, _<_}
 use native.Mathlib.Nat.{mul-pos, zero-lt-suc, pow-suc}
@@ -46,6 +46,6 @@ computed = refl
 
 -- ---- the statement
 
-pub decimals : Decimals
+pub nearest-f32 : Decimals
 unfolding round ofBits
-decimals = record { each = each-of constants computed; p28v-current = λ v. refl; p5v-current = λ v. refl; p5v-voltage = λ v. refl; detector = λ t m. refl }
+nearest-f32 = record { each = each-of constants computed; p28v-current = λ v. refl; p5v-current = λ v. refl; p5v-voltage = λ v. refl; detector = λ t m. refl }

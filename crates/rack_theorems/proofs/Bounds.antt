@@ -8,6 +8,8 @@ use lib.Ieee.{Float, lt}
 use lib.ListN.{length}
 use Rattle.bus.specs.declared.Note.{Note}
 use Rattle.bus.specs.Run.{Run, done, bind}
+use Rattle.interlock.specs.Level.{levelCode}
+use Rattle.ad5627.specs.declared.Dac.the-variants.{A, B}
 use Rattle.ads7924.specs.declared.Four.{Four}
 use Rattle.ads7924.specs.declared.Readings.{Readings}
 use Rattle.ads7924.specs.declared.Readings.the-variants.{Volts, Bus as AllUnread}
@@ -99,11 +101,11 @@ most-input s = most-mapped 1 _ _ (most-mcp3221 _)
 
 most-output : (s : ChannelSettings) → AtMost 1 (applyOutput s)
 unfolding applyOutput
-most-output s = most-ad5627 _ _
+most-output s = most-ad5627 B (levelCode (s .«output_power_transform») (s .«output_interlock_threshold»))
 
 most-reflected : (s : ChannelSettings) (power : Float) → AtMost 1 (setReflected s power)
 unfolding setReflected
-most-reflected s power = most-ad5627 _ _
+most-reflected s power = most-ad5627 A (levelCode (s .«reflected_power_transform») power)
 
 -- ---- the hardware
 

@@ -9,12 +9,14 @@ use Rattle.bus.specs.Run.{Run, done, mapped}
 use Rattle.conversions.specs.declared.Conversion.{Conversion}
 use Rattle.conversions.specs.declared.Conversion.the-variants.{Code, Range as Refused}
 use Rattle.conversions.specs.Codes.{dac7571Code}
+use Rattle.interlock.specs.Level.{levelCode}
 use Rattle.dac7571.specs.Voltage as Dac7571
 use Rattle.ad5627.specs.declared.Dac.{Dac}
+use Rattle.ad5627.specs.declared.Dac.the-variants.{A, B}
 use Rattle.ad5627.specs.Voltage as Ad5627
 use Rattle.rf_channel.specs.declared.ChannelSettings.{ChannelSettings}
 use Rattle.rf_machine.specs.Hardware.{applyBias}
-use Rattle.rf_devices.specs.Devices.{applyOutput, setReflected}
+use Rattle.rf_devices.specs.Devices.{highestReflected, applyOutput, setReflected}
 use Rattle.rf_changes.specs.declared.Changes.{Changes}
 use Rattle.rf_settings.specs.declared.Written.{Written}
 use Rattle.rf_settings.specs.declared.Written.the-variants.{Fine, Failed}
@@ -76,5 +78,5 @@ module _ (n : ℕ) where
   pub wrote-changes : (due : Changes) (s : ChannelSettings) → Gives n (writeChanges due s) (Wrote n)
   unfolding writeChanges writeOutput writeReflected writeBias applyOutput setReflected applyBias
   wrote-changes due s =
-      gives-bind _ _ (wrote-due (due .output) _ _ (level-sent _ _))
-      (on-fine _ (gives-bind _ _ (wrote-due (due .reflected) _ _ (level-sent _ _)) (on-fine _ (wrote-due (due .bias) _ _ (bias-set _)))))
+      gives-bind _ _ (wrote-due (due .output) _ _ (level-sent B (levelCode (s .«output_power_transform») (s .«output_interlock_threshold»))))
+      (on-fine _ (gives-bind _ _ (wrote-due (due .reflected) _ _ (level-sent A (levelCode (s .«reflected_power_transform») highestReflected))) (on-fine _ (wrote-due (due .bias) _ _ (bias-set _)))))

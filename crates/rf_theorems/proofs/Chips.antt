@@ -6,9 +6,11 @@ use Rattle.bus.specs.Run.{Run}
 use Rattle.conversions.specs.declared.Conversion.{Conversion}
 use Rattle.conversions.specs.declared.Conversion.the-variants.{Code, Range}
 use Rattle.conversions.specs.Codes.{dac7571Code}
+use Rattle.interlock.specs.Level.{levelCode}
 use Rattle.mcp3221.specs.Voltage as Mcp3221
 use Rattle.dac7571.specs.Voltage as Dac7571
 use Rattle.ad5627.specs.declared.Dac.{Dac}
+use Rattle.ad5627.specs.declared.Dac.the-variants.{A, B}
 use Rattle.ad5627.specs.Opening as Ad5627Opening
 use Rattle.ad5627.specs.Voltage as Ad5627
 use Rattle.ads7924.specs.declared.Channel.{Channel}
@@ -70,11 +72,11 @@ still-input s = still-mapped _ _ (still-mcp3221 _)
 
 pub still-output : (s : ChannelSettings) → Still (applyOutput s)
 unfolding applyOutput
-still-output s = still-ad5627 _ _
+still-output s = still-ad5627 B (levelCode (s .«output_power_transform») (s .«output_interlock_threshold»))
 
 pub still-reflected : (s : ChannelSettings) (power : Float) → Still (setReflected s power)
 unfolding setReflected
-still-reflected s power = still-ad5627 _ _
+still-reflected s power = still-ad5627 A (levelCode (s .«reflected_power_transform») power)
 
 -- work that is done or not
 pub still-cond : {A : Type 0} (b : Bool) {m n : Run A} → Still m → Still n → Still (cond b m n)
