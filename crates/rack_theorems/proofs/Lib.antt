@@ -16,3 +16,4 @@ pub mod Domain
 pub mod Words
 pub mod Impostors
 pub mod Worked
+pub mod Wire

@@ -1,4 +1,4 @@
--- Calls on a rack one after the other; the pin rule, the first demand, what an answer rests on, the second demand's domain, the requests in the words of the table, and an invented count.
+-- Calls on a rack one after the other; the pin rule, the first demand, what an answer rests on, the second demand's domain, the requests in the words of the table, an invented count, and demand 3 on the wire.
 pub mod History
 pub mod Demand1
 pub mod Rests
@@ -6,3 +6,4 @@ pub mod Domain
 pub mod Words
 pub mod Impostors
 pub mod Worked
+pub mod Wire

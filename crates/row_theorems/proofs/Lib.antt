@@ -1,5 +1,4 @@
 -- Theorems of the rows of a start and of a request.
 pub mod Lays
 pub mod Start
-pub mod Within
 pub mod Requests

@@ -11,9 +11,6 @@ use Rattle.rf_calls.specs.Requests.{requested}
 abbrev pub RequestRows : ℕ → Type 0
 RequestRows n = (c : RfChannel) (r : Request) (g : Givens) (replies : List ℕ) (slot taken : ℕ) → length (requested c r g replies slot taken .rows) ≤ n
 
--- 7, and no fewer: settings that change all three values and switch the channel off with a chip that fails there, and a status whose last reading fails
-abbrev pub AtMostSeven : Type 0
-AtMostSeven = RequestRows 7
-
+-- 7 are the most (rack_theorems: `RowsAtMost`), and 6 are too few: a status whose last reading fails has 7
 abbrev pub SixTooFew : Type 0
 SixTooFew = RequestRows 6 → ⊥
