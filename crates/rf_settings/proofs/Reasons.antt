@@ -69,7 +69,7 @@ module _ (due : Changes) (s : ChannelSettings) (n : ℕ) where
       gives-bind _ _ (due-or-not (due .output) _ _ (λ e. level-sent _ _ (output e)))
       (on-fine _ (gives-bind _ _ (due-or-not (due .reflected) _ _ (λ e. level-sent _ _ (reflected e))) (on-fine _ (due-or-not (due .bias) _ _ (λ e. bias-sent _ (bias e))))))
 
-pub range-only : RangeOnly
+pub range-only : RangeOnly writeChanges
 range-only due s rs slot taken = reasons due s slot rs taken .holds
 
 -- ---- equal settings

@@ -2,14 +2,13 @@
 use Prim.Native.Nat.{ℕ}
 use mathlib.Core.Path.{_≡_}
 use mathlib.Core.Bool.{true}
-use mathlib.Core.Logic.{_⊎_}
 use mathlib.Core.List.{List, [], _∷_, _++_}
 use lib.Ieee.{neg}
 use Rattle.bus.specs.declared.Got.the-variants as G
 use Rattle.bus.specs.declared.Transfer.the-variants.{Write2, Write3}
 use Rattle.bus.specs.declared.Transfer.{Transfer}
 use Rattle.bus.specs.Rows.{Row, moved}
-use Rattle.bus.specs.Run.{done}
+use Rattle.bus.specs.Run.{Run, done}
 use Rattle.conversions.specs.declared.Conversion.the-variants as C
 use Rattle.conversions.specs.Codes.{dac7571Code}
 use Rattle.interlock.specs.Level.{levelCode}
@@ -23,7 +22,7 @@ use Rattle.rf_settings.specs.declared.Applied.the-variants.{Ok}
 use Rattle.rf_settings.specs.declared.Written.{Written}
 use Rattle.rf_settings.specs.declared.Written.the-variants.{Fine, Failed}
 use Rattle.rf_settings.specs.declared.Wrong.the-variants.{Range, Chip, Bus}
-use Rattle.rf_settings.specs.Settings.{writeChanges, applySettings, following, handleSettings}
+use Rattle.rf_settings.specs.Settings.{applySettings, following, handleSettings}
 
 -- ---- what is due and has no code: the output level, the reflected level at 30.0, or the bias
 
@@ -54,8 +53,8 @@ Reason due s slot rows (Failed Range) = Uncoded due s
 Reason due s slot rows (Failed Chip) = EndsFailed ToLevels slot rows
 Reason due s slot rows (Failed Bus) = EndsFailed ToBias slot rows
 
-abbrev pub RangeOnly : Type 0
-RangeOnly = (due : Changes) (s : ChannelSettings) (replies : List ℕ) (slot taken : ℕ) → let x = writeChanges due s replies slot taken in Reason due s slot (x .rows) (x .ans)
+abbrev pub RangeOnly : (Changes → ChannelSettings → Run Written) → Type 0
+RangeOnly writes = (due : Changes) (s : ChannelSettings) (replies : List ℕ) (slot taken : ℕ) → let x = writes due s replies slot taken in Reason due s slot (x .rows) (x .ans)
 
 -- ---- settings equal to the old by f32's ==: the channel stays as it is, its old settings included, nothing is written, and the event follows
 
