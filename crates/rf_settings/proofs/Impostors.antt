@@ -3,11 +3,9 @@
 use Prim.Native.Nat.{ℕ}
 use native.Mathlib.Omega.{arith}
 use mathlib.Core.Path.{_≡_, refl, sym, _∙_}
-use mathlib.Core.Bool.{Bool, true, false}
+use mathlib.Core.Bool.{true, false}
 use mathlib.Core.List.{List}
-use lib.Ieee.{Float, binary32, ofBits, round, neg, le, sub, mul, div, toUnsigned}
-use Rattle.linear_transformation.specs.declared.LinearTransformation.{LinearTransformation}
-use Rattle.linear_transformation.specs.Line.{line}
+use lib.Ieee.{ofBits, round, neg, le, sub, mul, div, toUnsigned}
 use Rattle.bus.specs.Run.{Run}
 use Rattle.conversions.specs.declared.Conversion.the-variants.{Code, Range as Refused}
 use Rattle.interlock.specs.Level.{levelCode}
@@ -16,15 +14,9 @@ use Rattle.rf_changes.specs.declared.Changes.{Changes}
 use Rattle.rf_settings.specs.declared.Written.{Written}
 use Rattle.rf_settings.specs.declared.Written.the-variants.{Failed}
 use Rattle.rf_settings.specs.declared.Wrong.the-variants.{Range}
-use Rattle.rf_settings.specs.Reasons.{Uncoded, output, reflected, bias, Reason, RangeOnly}
+use Rattle.rf_settings.specs.Reasons.{Uncoded, output, reflected, bias, Reason, RangeOnly, fullLine, fullLevel}
 
-abbrev fullLine : LinearTransformation
-fullLine = line (round binary32 false 20 1) (neg (round binary32 false 10 1))
-
-abbrev fullLevel : Float
-fullLevel = round binary32 false 3999 100
-
-full-code : levelCode fullLine fullLevel ≡ Code 4095
+pub full-code : levelCode fullLine fullLevel ≡ Code 4095
 unfolding ofBits round neg le sub mul div toUnsigned
 full-code = refl
 

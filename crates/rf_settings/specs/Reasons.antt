@@ -1,9 +1,11 @@
 -- Why the writes of new settings end as they do, in words of the levels' codes, of the bias chip's conversion and of the rows; and that settings equal to the old change nothing. Definitions only.
 use Prim.Native.Nat.{ℕ}
 use mathlib.Core.Path.{_≡_}
-use mathlib.Core.Bool.{true}
+use mathlib.Core.Bool.{true, false}
 use mathlib.Core.List.{List, [], _∷_, _++_}
-use lib.Ieee.{neg}
+use lib.Ieee.{Float, binary32, round, neg}
+use Rattle.linear_transformation.specs.declared.LinearTransformation.{LinearTransformation}
+use Rattle.linear_transformation.specs.Line.{line}
 use Rattle.bus.specs.declared.Got.the-variants as G
 use Rattle.bus.specs.declared.Transfer.the-variants.{Write2, Write3}
 use Rattle.bus.specs.declared.Transfer.{Transfer}
@@ -55,6 +57,13 @@ Reason due s slot rows (Failed Bus) = EndsFailed ToBias slot rows
 
 abbrev pub RangeOnly : (Changes → ChannelSettings → Run Written) → Type 0
 RangeOnly writes = (due : Changes) (s : ChannelSettings) (replies : List ℕ) (slot taken : ℕ) → let x = writes due s replies slot taken in Reason due s slot (x .rows) (x .ans)
+
+-- the highest code: slope 20, offset -10, threshold 39.99, whose count is 4095.18
+abbrev pub fullLine : LinearTransformation
+fullLine = line (round binary32 false 20 1) (neg (round binary32 false 10 1))
+
+abbrev pub fullLevel : Float
+fullLevel = round binary32 false 3999 100
 
 -- ---- settings equal to the old by f32's ==: the channel stays as it is, its old settings included, nothing is written, and the event follows
 

@@ -5,7 +5,7 @@ use mathlib.Core.Bool.{Bool, true, false, cond}
 use mathlib.Core.Logic.{_⊎_, inl, inr}
 use mathlib.Core.List.{List}
 use lib.Dec.{eqb, lit<, lit≤}
-use lib.Ieee.{Float, ofBits, round, neg, fits, sub, mul, div, le, toUnsigned}
+use lib.Ieee.{Float, round, neg, fits}
 use Rattle.steps.specs.Steps.{magnitude, negative}
 use Rattle.linear_transformation.specs.declared.LinearTransformation.{LinearTransformation}
 use Rattle.conversions.specs.declared.Conversion.{Conversion}
@@ -57,14 +57,15 @@ use Rattle.rf_settings.specs.declared.Written.the-variants.{Fine, Failed}
 use Rattle.rf_settings.specs.declared.Wrong.{Wrong}
 use Rattle.rf_settings.specs.declared.Wrong.the-variants as W
 use Rattle.rf_settings.specs.Settings.{writeChanges, appliedTo, applySettings, onFollow, following, refusing, onApplied, handleSettings}
-use Rattle.rf_settings.specs.Reasons.{Uncoded, output, reflected, bias, Reason}
+use Rattle.rf_settings.specs.Reasons.{Uncoded, output, reflected, bias, Reason, fullLine, fullLevel}
 use Rattle.rf_settings.proofs.Reasons.{reasons}
+use Rattle.rf_settings.proofs.Impostors.{full-code}
 use Rattle.rf_start.specs.declared.Presence.{Presence}
 use Rattle.rf_start.specs.declared.Presence.the-variants.{Present, Absent as NotThere}
 use Rattle.rf_start.specs.Start.{beginning, ready, heard, quiet, monitor, preparing, moduleThere, levelSet, levels, settling, ifPresent, starting}
 use Rattle.rf_calls.specs.Requests.{requested}
 use Rattle.wire_theorems.specs.Wire.{thirty}
-use Rattle.wire_theorems.specs.Refusals.{Refusable, ALevel, RefusedForRange, fullLine, fullLevel, FullScale}
+use Rattle.wire_theorems.specs.Refusals.{Refusable, ALevel, RefusedForRange, FullScale}
 use Rattle.wire_theorems.proofs.Wire.{thirty-is}
 
 -- ---- a level without a code is one that demand 3 lets be refused
@@ -260,10 +261,6 @@ refused-for-range = record { start = start-refused; settings = settings-refused 
 
 -- ---- the highest code
 
-full-sent : levelCode fullLine fullLevel ≡ C.Code 4095
-unfolding ofBits round neg le sub mul div toUnsigned
-full-sent = refl
-
 full-given : Given fullLine fullLevel
 unfolding round neg fits magnitude
 full-given = record { threshold-finite = (tt, tt); offset-finite = (tt, tt); slope-finite = (tt, tt); slope-not-zero = lit< tt; threshold-size = lit≤ tt; offset-size = lit≤ tt }
@@ -273,4 +270,4 @@ full-in-range (inl h) = unfold round neg magnitude negative in h .lt
 full-in-range (inr h) = unfold round neg magnitude negative in h .lt
 
 pub full-scale : FullScale
-full-scale = record { is-sent = full-sent; is-not-refused = λ convert e d. full-in-range (subst (λ (x : Conversion). Answers fullLine fullLevel x) e (d fullLine fullLevel full-given)) }
+full-scale = record { is-sent = full-code; is-not-refused = λ convert e d. full-in-range (subst (λ (x : Conversion). Answers fullLine fullLevel x) e (d fullLine fullLevel full-given)) }

@@ -1,12 +1,11 @@
 -- For what a start may halt with cause 4 and new settings may be answered 11: a level whose count is below 0 or above 4096 - 1/1024, if demand 3's premises hold for it; and a bias that the bias chip has no code for. Definitions only.
 use Prim.Native.Nat.{ℕ}
 use mathlib.Core.Path.{_≡_}
-use mathlib.Core.Bool.{Bool, false}
+use mathlib.Core.Bool.{Bool}
 use mathlib.Core.Logic.{_⊎_}
 use mathlib.Core.List.{List}
-use lib.Ieee.{Float, binary32, round, neg}
+use lib.Ieee.{Float, neg}
 use Rattle.linear_transformation.specs.declared.LinearTransformation.{LinearTransformation}
-use Rattle.linear_transformation.specs.Line.{line}
 use Rattle.conversions.specs.declared.Conversion.{Conversion}
 use Rattle.conversions.specs.declared.Conversion.the-variants as C
 use Rattle.conversions.specs.Codes.{dac7571Code}
@@ -18,6 +17,7 @@ use Rattle.rf_machine.specs.declared.Cause.the-variants.{Threshold}
 use Rattle.rf_call.specs.declared.Answer.the-variants.{Range}
 use Rattle.rf_call.specs.declared.Givens.{Givens}
 use Rattle.rf_call.specs.declared.Outcome.the-variants.{Live, Halted}
+use Rattle.rf_settings.specs.Reasons.{fullLine, fullLevel}
 use Rattle.rf_start.specs.Start.{starting}
 use Rattle.rf_calls.specs.declared.Request.the-variants.{Settings}
 use Rattle.rf_calls.specs.Requests.{requested}
@@ -37,13 +37,7 @@ pub record RefusedForRange : Type 0 where
   -- answer 11
   pub settings : (c c′ : RfChannel) (s : ChannelSettings) (g : Givens) (replies : List ℕ) (slot taken : ℕ) → requested c (Settings s) g replies slot taken .ans ≡ Live c′ Range → ALevel s ⊎ (dac7571Code (neg (s .«bias_voltage»)) ≡ C.Range)
 
--- ---- the highest code: slope 20, offset -10, threshold 39.99, whose count is 4095.18
-
-abbrev pub fullLine : LinearTransformation
-fullLine = line (round binary32 false 20 1) (neg (round binary32 false 10 1))
-
-abbrev pub fullLevel : Float
-fullLevel = round binary32 false 3999 100
+-- ---- the level of the highest code, 4095
 
 -- it is sent, and a conversion that refuses it is against demand 3
 pub record FullScale : Type 0 where
