@@ -57,7 +57,7 @@ use Rattle.slot_call.specs.Step.{acts, shownTo}
 use Rattle.rack_theorems.specs.Demand1.{Transfers, LastFailed, EndsLow, SaysLow, IsStart}
 use Rattle.rack_theorems.proofs.Found.{Finds, found}
 use Rattle.rack_theorems.proofs.Seen.{any-event, keeps-ask}
-use Rattle.rack_theorems.proofs.Gives.{Gives, gives-any, gives-done, gives-cond, gives-bind, gives-mapped}
+use Rattle.rf_machine.proofs.Gives.{Gives, gives-any, gives-done, gives-cond, gives-bind, gives-mapped}
 use Rattle.rack_theorems.proofs.Writes.{Chipped, Wrote, wrote-changes}
 use Rattle.rack_theorems.proofs.Ends.{Ends, ends-after, ends-halting, ends-quietly, ends-follow, ends-updating, ends-status, ends-starting}
 

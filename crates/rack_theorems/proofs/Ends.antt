@@ -34,7 +34,7 @@ use Rattle.rf_start.specs.declared.Presence.{Presence}
 use Rattle.rf_start.specs.declared.Presence.the-variants.{Present, Absent as NotThere}
 use Rattle.rf_start.specs.Start.{settling, ifPresent, starting}
 use Rattle.rack_theorems.specs.Demand1.{EndsLow}
-use Rattle.rack_theorems.proofs.Gives.{Gives, gives-any, gives-done, gives-bind}
+use Rattle.rf_machine.proofs.Gives.{Gives, gives-any, gives-done, gives-bind}
 
 -- ---- a run that is answered 0, or is absent where X holds, or halts
 

@@ -3,7 +3,6 @@ pub mod Found
 pub mod Seen
 pub mod Pins
 pub mod Blocked
-pub mod Gives
 pub mod Ends
 pub mod Writes
 pub mod Answers

@@ -23,7 +23,7 @@ use Rattle.rf_settings.specs.declared.Written.the-variants.{Fine, Failed}
 use Rattle.rf_settings.specs.declared.Wrong.the-variants as W
 use Rattle.rf_settings.specs.Settings.{levelApplied, biasApplied, onFine, writeOutput, writeReflected, writeBias, writeChanges}
 use Rattle.rack_theorems.specs.Demand1.{Transfers, LastFailed}
-use Rattle.rack_theorems.proofs.Gives.{Gives, gives-done, gives-bind, gives-mapped, gives-try}
+use Rattle.rf_machine.proofs.Gives.{Gives, gives-done, gives-bind, gives-mapped, gives-try}
 
 -- for a 12 the last row is a failed write to the chip
 unfoldable pub Chipped : ℕ → List Row → Written → Type 0
