@@ -20,9 +20,10 @@ struct Reading {
 }
 
 // Answers a line, and tells whether the answer is written.
-fn pass(s: &[u8], out: &mut [u8]) -> bool {
-    let past = answer::pass(s, out);
-    let text = line_hold::front(out, past);
+fn pass(s: &[u8]) -> bool {
+    let mut out = [0u8; 2048];
+    let past = answer::pass(s, &mut out);
+    let text = line_hold::front(&out, past);
     let sent = io::write_all(STDOUT_FILENO, text);
     if !sent {
         io::write_all(STDERR_FILENO, b"The answers cannot be written.\n");
@@ -31,14 +32,14 @@ fn pass(s: &[u8], out: &mut [u8]) -> bool {
 }
 
 // A line feed: the line that is held has ended.
-fn end_line(hold: &[u8; 514], held: usize, out: &mut [u8]) -> bool {
+fn end_line(hold: &[u8; 514], held: usize) -> bool {
     let line = line_hold::front(hold, held);
     let s = line_hold::without_cr(line);
-    pass(s, out)
+    pass(s)
 }
 
 // The lines that end in the chunk. What is behind the last is held.
-fn feed(held: usize, hold: &mut [u8; 514], chunk: &[u8], out: &mut [u8]) -> Reading {
+fn feed(held: usize, hold: &mut [u8; 514], chunk: &[u8]) -> Reading {
     let mut held = held;
     let mut start = 0;
     while start < chunk.len() {
@@ -48,7 +49,7 @@ fn feed(held: usize, hold: &mut [u8; 514], chunk: &[u8], out: &mut [u8]) -> Read
             return Reading { held, more: true };
         }
         start = end + 1;
-        let sent = end_line(hold, held, out);
+        let sent = end_line(hold, held);
         held = 0;
         if !sent {
             return Reading { held, more: false };
@@ -58,12 +59,12 @@ fn feed(held: usize, hold: &mut [u8; 514], chunk: &[u8], out: &mut [u8]) -> Read
 }
 
 // The end of the input. A last line without a line end counts.
-fn finish(held: usize, hold: &[u8; 514], out: &mut [u8]) -> Reading {
+fn finish(held: usize, hold: &[u8; 514]) -> Reading {
     if held == 0 {
         return Reading { held, more: false };
     }
     let s = line_hold::front(hold, held);
-    pass(s, out);
+    pass(s);
     Reading {
         held: 0,
         more: false,
@@ -71,7 +72,7 @@ fn finish(held: usize, hold: &[u8; 514], out: &mut [u8]) -> Reading {
 }
 
 // Reads a chunk and answers its lines.
-fn turn(held: usize, hold: &mut [u8; 514], chunk: &mut [u8], out: &mut [u8]) -> Reading {
+fn turn(held: usize, hold: &mut [u8; 514], chunk: &mut [u8]) -> Reading {
     let got = libc::read(STDIN_FILENO, chunk);
     if got < 0 {
         io::write_all(STDERR_FILENO, b"The questions cannot be read.\n");
@@ -79,20 +80,20 @@ fn turn(held: usize, hold: &mut [u8; 514], chunk: &mut [u8], out: &mut [u8]) -> 
     }
     let n = io::count(got, chunk);
     if n == 0 {
-        return finish(held, hold, out);
+        return finish(held, hold);
     }
     let part = line_hold::front(chunk, n);
-    feed(held, hold, part, out)
+    feed(held, hold, part)
 }
 
 // A proved loop has to end, and nothing says that the input does: so the turns are counted down, from a number that
 // no run uses up.
-fn turns(hold: &mut [u8; 514], chunk: &mut [u8], out: &mut [u8]) {
+fn turns(hold: &mut [u8; 514], chunk: &mut [u8]) {
     let mut held = 0;
     let mut left = u64::MAX;
     while 0 < left {
         left -= 1;
-        let reading = turn(held, hold, chunk, out);
+        let reading = turn(held, hold, chunk);
         held = reading.held;
         if !reading.more {
             return;
@@ -103,6 +104,5 @@ fn turns(hold: &mut [u8; 514], chunk: &mut [u8], out: &mut [u8]) {
 fn main() {
     let mut hold = [0u8; 514];
     let mut chunk = [0u8; 65536];
-    let mut out = [0u8; 2048];
-    turns(&mut hold, &mut chunk, &mut out);
+    turns(&mut hold, &mut chunk);
 }

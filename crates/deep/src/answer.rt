@@ -2,6 +2,7 @@
 // it, put at the start of a buffer that the caller lends. That line is `N,bad`, or `N,answer,state,power,rf,rows` as
 // the replay writes it and then `,cause,deadline,state told,flags,numbers,settings,log`, each empty where it does not
 // apply. The state told is that in the report of a status, beside what stands in the slot.
+use entry::Call;
 use rf_call::Slot;
 use slots::Rack;
 use slots::Turn;
@@ -49,8 +50,9 @@ fn put_middle(
     slot: Slot,
     numbers: &[f32; 7],
 ) -> usize {
+    let report = crate::beside::told(verdict);
     let past = pen::byte(out, at, b',');
-    let past = crate::beside::put_told(out, past, verdict, numbers);
+    let past = crate::beside::put_report(out, past, report, numbers);
     let past = pen::byte(out, past, b',');
     crate::beside::put_settings(out, past, slot)
 }
@@ -80,33 +82,60 @@ fn put_call(
     put_log(out, past, log, from, turn.used)
 }
 
-// A line of a trace.
-fn answer(place: Place, log: &mut [u8], s: &[u8], out: &mut [u8; 2048]) -> Told {
+// The place at the next line.
+fn next(place: Place) -> Place {
     let rack = place.rack;
-    let used = place.used;
     let line = std::num::wrapping_add_u64(place.line, 1);
-    let parsed = crate::line::parse(s);
-    let Parsed::Call(call) = parsed else {
-        let past = sheet::put_bad(out, 0, line);
-        let place = Place { rack, used, line };
-        return Told { place, past };
-    };
-    let mut numbers = [0.0; 7];
-    let turn = crate::line::turn(rack, call, log, used, s, &mut numbers);
-    let past = put_call(out, line, turn, &numbers, log, used);
+    Place {
+        rack,
+        used: place.used,
+        line,
+    }
+}
+
+// The place after a call.
+fn after(line: u64, turn: Turn) -> Place {
     let rack = turn.rack;
-    let place = Place {
+    Place {
         rack,
         used: turn.used,
         line,
-    };
+    }
+}
+
+// A line that is no call.
+fn bad(place: Place, out: &mut [u8; 2048]) -> Told {
+    let past = sheet::put_bad(out, 0, place.line);
     Told { place, past }
 }
 
+// A line that is a call.
+fn made(place: Place, call: Call, log: &mut [u8], s: &[u8], out: &mut [u8; 2048]) -> Told {
+    let mut numbers = [0.0; 7];
+    let turn = crate::line::turn(place.rack, call, log, place.used, s, &mut numbers);
+    let past = put_call(out, place.line, turn, &numbers, log, place.used);
+    let place = after(place.line, turn);
+    Told { place, past }
+}
+
+// A line of a trace.
+fn answer(place: Place, log: &mut [u8], s: &[u8], out: &mut [u8; 2048]) -> Told {
+    let place = next(place);
+    let parsed = crate::line::parse(s);
+    let Parsed::Call(call) = parsed else {
+        return bad(place, out);
+    };
+    made(place, call, log, s, out)
+}
+
 // A line whose first bytes are `tick` is the header of a new trace.
-pub fn pass(place: Place, log: &mut [u8], s: &[u8], out: &mut [u8; 2048]) -> Told {
+fn is_header(s: &[u8]) -> bool {
     let first = line_hold::front(s, 4);
-    if check::same(first, b"tick") {
+    check::same(first, b"tick")
+}
+
+pub fn pass(place: Place, log: &mut [u8], s: &[u8], out: &mut [u8; 2048]) -> Told {
+    if is_header(s) {
         let place = begin();
         return Told { place, past: 0 };
     }

@@ -1,6 +1,7 @@
 // The columns that a call is compared by, behind those of a replay's line.
 use rf_call::Answer;
 use rf_call::ChannelStatus;
+use rf_call::PowerStatus;
 use rf_call::Report;
 use rf_call::Slot;
 use rf_channel::ChannelSettings;
@@ -17,21 +18,32 @@ fn put_cause(out: &mut [u8], at: usize, verdict: Verdict) -> usize {
     pen::decimal(out, at, cause as u64)
 }
 
-// The tick until which a channel powers up or down, or nothing.
-fn put_deadline(out: &mut [u8], at: usize, slot: Slot) -> usize {
+// The tick until which a channel powers up or down, or none.
+pub enum Deadline {
+    At(u64),
+    Not,
+}
+
+fn deadline_of(slot: Slot) -> Deadline {
     let Slot::Channel(channel) = slot else {
-        return at;
+        return Deadline::Not;
     };
     let state = channel.state;
-    match state {
-        States::Blocked(_) => at,
-        States::Off => at,
-        States::Powerup(tick) => pen::decimal(out, at, tick as u64),
-        States::Powered => at,
-        States::Enabled => at,
-        States::Tripped(_) => at,
-        States::Powerdown(tick) => pen::decimal(out, at, tick as u64),
+    if let States::Powerup(tick) = state {
+        return Deadline::At(tick as u64);
     }
+    if let States::Powerdown(tick) = state {
+        return Deadline::At(tick as u64);
+    }
+    Deadline::Not
+}
+
+fn put_deadline(out: &mut [u8], at: usize, slot: Slot) -> usize {
+    let deadline = deadline_of(slot);
+    let Deadline::At(tick) = deadline else {
+        return at;
+    };
+    pen::decimal(out, at, tick)
 }
 
 // The columns of cause and deadline, each behind a comma.
@@ -71,35 +83,37 @@ fn put_status(out: &mut [u8; 2048], at: usize, s: ChannelStatus, numbers: &[f32;
     pen::floats(out, past, numbers)
 }
 
-// What a call that is done tells: the flags of an update, or the state, the flags and the numbers of a status.
-fn put_report(out: &mut [u8; 2048], at: usize, report: Report, numbers: &[f32; 7]) -> usize {
+fn put_power(out: &mut [u8], at: usize, p: PowerStatus) -> usize {
+    let past = pen::byte(out, at, b',');
+    let past = put_flags(out, past, p.powered, p.rf_disabled, p.blocked);
+    pen::byte(out, past, b',')
+}
+
+// The report of a call. One that is not done reports nothing.
+pub fn told(verdict: Verdict) -> Report {
+    if let Verdict::Answered(answer) = verdict {
+        if let Answer::Done(report) = answer {
+            return report;
+        }
+    }
+    Report::Plain
+}
+
+// The three columns of the state told, the flags and the numbers, with the commas between them: an update tells its
+// flags, a status all three.
+pub fn put_report(out: &mut [u8; 2048], at: usize, report: Report, numbers: &[f32; 7]) -> usize {
     match report {
         Report::Plain => pen::bytes(out, at, b",,"),
-        Report::Power(p) => {
-            let past = pen::byte(out, at, b',');
-            let past = put_flags(out, past, p.powered, p.rf_disabled, p.blocked);
-            pen::byte(out, past, b',')
-        }
+        Report::Power(p) => put_power(out, at, p),
         Report::Status(s) => put_status(out, at, s, numbers),
     }
 }
 
-// The three columns of the state told, the flags and the numbers, with the commas between them.
-pub fn put_told(out: &mut [u8; 2048], at: usize, verdict: Verdict, numbers: &[f32; 7]) -> usize {
-    let Verdict::Answered(answer) = verdict else {
-        return pen::bytes(out, at, b",,");
-    };
-    let Answer::Done(report) = answer else {
-        return pen::bytes(out, at, b",,");
-    };
-    put_report(out, at, report, numbers)
-}
-
-fn put_wanted(out: &mut [u8], at: usize, wanted: ChannelState) -> usize {
+fn digit(wanted: ChannelState) -> u8 {
     match wanted {
-        ChannelState::Off => pen::byte(out, at, b'0'),
-        ChannelState::Powered => pen::byte(out, at, b'1'),
-        ChannelState::Enabled => pen::byte(out, at, b'2'),
+        ChannelState::Off => b'0',
+        ChannelState::Powered => b'1',
+        ChannelState::Enabled => b'2',
     }
 }
 
@@ -119,7 +133,7 @@ fn put_fields(out: &mut [u8], at: usize, s: ChannelSettings) -> usize {
         reflected.offset,
     ];
     let past = pen::floats(out, at, &fields);
-    put_wanted(out, past, wanted)
+    pen::byte(out, past, digit(wanted))
 }
 
 // The settings in force, as a trace writes them, or nothing.

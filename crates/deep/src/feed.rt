@@ -14,14 +14,28 @@ pub struct Reading {
     pub more: bool,
 }
 
-// The place after a line, and whether what it gave is written.
-pub struct Passed {
-    pub place: Place,
-    pub sent: bool,
+// Where the input begins.
+pub fn begin() -> Reading {
+    let place = crate::answer::begin();
+    Reading {
+        place,
+        held: 0,
+        more: true,
+    }
+}
+
+// Nothing more is to be read.
+pub fn ended(reading: Reading) -> Reading {
+    let place = reading.place;
+    Reading {
+        place,
+        held: reading.held,
+        more: false,
+    }
 }
 
 // Writes the first `past` bytes of the buffer.
-fn send(out: &[u8], past: usize) -> bool {
+fn send(out: &[u8; 2048], past: usize) -> bool {
     let text = line_hold::front(out, past);
     let sent = io::write_all(STDOUT_FILENO, text);
     if !sent {
@@ -30,60 +44,30 @@ fn send(out: &[u8], past: usize) -> bool {
     sent
 }
 
-fn pass(place: Place, log: &mut [u8], s: &[u8], out: &mut [u8; 2048]) -> Passed {
-    let told = crate::answer::pass(place, log, s, out);
-    let sent = send(out, told.past);
+// A line. Where what it gives cannot be written, nothing more is to be read.
+fn pass(place: Place, log: &mut [u8], s: &[u8]) -> Reading {
+    let mut out = [0u8; 2048];
+    let told = crate::answer::pass(place, log, s, &mut out);
+    let more = send(&out, told.past);
     let place = told.place;
-    Passed { place, sent }
+    Reading {
+        place,
+        held: 0,
+        more,
+    }
 }
 
 // A line feed: the line that is held has ended.
-fn end_line(
-    place: Place,
-    log: &mut [u8],
-    hold: &[u8; 514],
-    held: usize,
-    out: &mut [u8; 2048],
-) -> Passed {
-    let line = line_hold::front(hold, held);
+fn end_line(reading: Reading, log: &mut [u8], hold: &[u8; 514]) -> Reading {
+    let line = line_hold::front(hold, reading.held);
     let s = line_hold::without_cr(line);
-    pass(place, log, s, out)
+    pass(reading.place, log, s)
 }
 
-// The lines that end in the chunk. What is behind the last is held.
-pub fn feed(
-    place: Place,
-    held: usize,
-    log: &mut [u8],
-    hold: &mut [u8; 514],
-    chunk: &[u8],
-    out: &mut [u8; 2048],
-) -> Reading {
-    let mut place = place;
-    let mut held = held;
-    let mut start = 0;
-    while start < chunk.len() {
-        let end = bytes::scan::find(chunk, start, chunk.len(), LF);
-        held = line_hold::keep_part(hold, held, &chunk[start..end]);
-        if end == chunk.len() {
-            return Reading {
-                place,
-                held,
-                more: true,
-            };
-        }
-        start = end + 1;
-        let passed = end_line(place, log, hold, held, out);
-        place = passed.place;
-        held = 0;
-        if !passed.sent {
-            return Reading {
-                place,
-                held,
-                more: false,
-            };
-        }
-    }
+// A part of a line, without its end.
+fn keep(reading: Reading, hold: &mut [u8; 514], part: &[u8]) -> Reading {
+    let held = line_hold::keep_part(hold, reading.held, part);
+    let place = reading.place;
     Reading {
         place,
         held,
@@ -91,27 +75,39 @@ pub fn feed(
     }
 }
 
+// The lines that end in the chunk. What is behind the last is held.
+fn feed(reading: Reading, log: &mut [u8], hold: &mut [u8; 514], chunk: &[u8]) -> Reading {
+    let mut reading = reading;
+    let mut start = 0;
+    while start < chunk.len() {
+        let end = bytes::scan::find(chunk, start, chunk.len(), LF);
+        reading = keep(reading, hold, &chunk[start..end]);
+        if end == chunk.len() {
+            return reading;
+        }
+        start = end + 1;
+        reading = end_line(reading, log, hold);
+        if !reading.more {
+            return reading;
+        }
+    }
+    reading
+}
+
 // The end of the input. A last line without a line end counts.
-pub fn finish(
-    place: Place,
-    held: usize,
-    log: &mut [u8],
-    hold: &[u8; 514],
-    out: &mut [u8; 2048],
-) -> Reading {
-    if held == 0 {
-        return Reading {
-            place,
-            held,
-            more: false,
-        };
+fn finish(reading: Reading, log: &mut [u8], hold: &[u8; 514]) -> Reading {
+    if reading.held == 0 {
+        return ended(reading);
     }
-    let s = line_hold::front(hold, held);
-    let passed = pass(place, log, s, out);
-    let place = passed.place;
-    Reading {
-        place,
-        held: 0,
-        more: false,
+    let s = line_hold::front(hold, reading.held);
+    let reading = pass(reading.place, log, s);
+    ended(reading)
+}
+
+// What was read. Where that is nothing, the input has ended.
+pub fn take(reading: Reading, log: &mut [u8], hold: &mut [u8; 514], chunk: &[u8]) -> Reading {
+    if chunk.len() == 0 {
+        return finish(reading, log, hold);
     }
+    feed(reading, log, hold, chunk)
 }

@@ -10,45 +10,25 @@ use libc::STDERR_FILENO;
 use libc::STDIN_FILENO;
 
 // Reads a chunk and does its lines.
-fn turn(
-    reading: Reading,
-    log: &mut [u8],
-    hold: &mut [u8; 514],
-    chunk: &mut [u8],
-    out: &mut [u8; 2048],
-) -> Reading {
-    let place = reading.place;
-    let held = reading.held;
+fn turn(reading: Reading, log: &mut [u8], hold: &mut [u8; 514], chunk: &mut [u8]) -> Reading {
     let got = libc::read(STDIN_FILENO, chunk);
     if got < 0 {
         io::write_all(STDERR_FILENO, b"The lines cannot be read.\n");
-        return Reading {
-            place,
-            held,
-            more: false,
-        };
+        return feed::ended(reading);
     }
     let n = io::count(got, chunk);
-    if n == 0 {
-        return feed::finish(place, held, log, hold, out);
-    }
     let part = line_hold::front(chunk, n);
-    feed::feed(place, held, log, hold, part, out)
+    feed::take(reading, log, hold, part)
 }
 
 // A proved loop has to end, and nothing says that the input does: so the turns are counted down, from a number that
 // no run uses up.
-fn turns(log: &mut [u8], hold: &mut [u8; 514], chunk: &mut [u8], out: &mut [u8; 2048]) {
-    let place = answer::begin();
-    let mut reading = Reading {
-        place,
-        held: 0,
-        more: true,
-    };
+fn turns(log: &mut [u8], hold: &mut [u8; 514], chunk: &mut [u8]) {
+    let mut reading = feed::begin();
     let mut left = u64::MAX;
     while 0 < left {
         left -= 1;
-        reading = turn(reading, log, hold, chunk, out);
+        reading = turn(reading, log, hold, chunk);
         if !reading.more {
             return;
         }
@@ -59,6 +39,5 @@ fn main() {
     let mut log = [0u8; 65536];
     let mut hold = [0u8; 514];
     let mut chunk = [0u8; 65536];
-    let mut out = [0u8; 2048];
-    turns(&mut log, &mut hold, &mut chunk, &mut out);
+    turns(&mut log, &mut hold, &mut chunk);
 }

@@ -1,16 +1,15 @@
--- `ask::feed` is safe and ends. The loop's invariant: the buffer keeps its length, and the next line starts within the chunk or at its end. The measure is what is left of the chunk. Assumes nothing.
+-- `ask::feed` is safe and ends. The loop's invariant: the next line starts within the chunk or at its end. The measure is what is left of the chunk. Assumes nothing.
 use Prim.Native.Nat.{_-_, _≤_}
-use mathlib.Core.Path.{_≡_}
 use lib.ListN.{length}
 use borrow.Author.Needs.{needs}
 use Rattle.ask.proofs.feed.Statement.{statement}
 use Rattle.ask.proofs.feed.Tie as tie
 
 abbrev Inv-loop : tie.InvT-loop
-Inv-loop held hold₀ chunk out₀ held₀ start₀ hold out held' start = (length out ≡ length out₀) × (start ≤ length chunk)
+Inv-loop held hold₀ chunk held₀ start₀ hold held' start = start ≤ length chunk
 
 abbrev μ-loop : tie.MeasureT-loop
-μ-loop held hold₀ chunk out₀ held₀ start₀ hold out held' start = length chunk - start
+μ-loop held hold₀ chunk held₀ start₀ hold held' start = length chunk - start
 
 loop-holds : tie.Need-loop-holds Inv-loop μ-loop
 loop-holds c = search needs
@@ -30,9 +29,6 @@ part-keep-part-end c = search needs
 keep-part-requires : tie.Need-keep-part-requires Inv-loop μ-loop
 keep-part-requires c κs = search needs
 
-same-length : tie.Need-same-length Inv-loop μ-loop
-same-length c = search needs
-
 returns : tie.Need-returns Inv-loop μ-loop
 returns c = search needs
 
@@ -42,9 +38,6 @@ add-start c = search needs
 end-line-requires : tie.Need-end-line-requires Inv-loop μ-loop
 end-line-requires c κs = search needs
 
-same-length-2 : tie.Need-same-length-2 Inv-loop μ-loop
-same-length-2 c = search needs
-
 returns-2 : tie.Need-returns-2 Inv-loop μ-loop
 returns-2 c = search needs
 
@@ -53,9 +46,6 @@ loop-less c = search needs
 
 loop-again : tie.Need-loop-again Inv-loop μ-loop
 loop-again c = search needs
-
-same-length-3 : tie.Need-same-length-3 Inv-loop μ-loop
-same-length-3 c = search needs
 
 returns-3 : tie.Need-returns-3 Inv-loop μ-loop
 returns-3 c = search needs
@@ -72,13 +62,10 @@ feed-spec =
     part-keep-part-start
     part-keep-part-end
     keep-part-requires
-    same-length
     returns
     add-start
     end-line-requires
-    same-length-2
     returns-2
     loop-less
     loop-again
-    same-length-3
     returns-3)

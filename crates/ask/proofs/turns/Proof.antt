@@ -1,4 +1,4 @@
--- `ask::turns` is safe. The loop's invariant: chunk and buffer keep their lengths. The measure is the turns that are left. Assumes nothing.
+-- `ask::turns` is safe. The loop's invariant: the chunk keeps its length. The measure is the turns that are left. Assumes nothing.
 use mathlib.Core.Path.{_≡_}
 use lib.ListN.{length}
 use borrow.Author.Needs.{needs}
@@ -6,10 +6,10 @@ use Rattle.ask.proofs.turns.Statement.{statement}
 use Rattle.ask.proofs.turns.Tie as tie
 
 abbrev Inv-loop : tie.InvT-loop
-Inv-loop hold₀ chunk₀ out₀ held₀ left₀ hold chunk out held left = (length chunk ≡ length chunk₀) × (length out ≡ length out₀)
+Inv-loop hold₀ chunk₀ held₀ left₀ hold chunk held left = length chunk ≡ length chunk₀
 
 abbrev μ-loop : tie.MeasureT-loop
-μ-loop hold₀ chunk₀ out₀ held₀ left₀ hold chunk out held left = left
+μ-loop hold₀ chunk₀ held₀ left₀ hold chunk held left = left
 
 loop-holds : tie.Need-loop-holds Inv-loop μ-loop
 loop-holds c = search needs
@@ -23,9 +23,6 @@ turn-requires c κs = search needs
 same-length : tie.Need-same-length Inv-loop μ-loop
 same-length c = search needs
 
-same-length-2 : tie.Need-same-length-2 Inv-loop μ-loop
-same-length-2 c = search needs
-
 returns : tie.Need-returns Inv-loop μ-loop
 returns c = search needs
 
@@ -35,11 +32,8 @@ loop-less c = search needs
 loop-again : tie.Need-loop-again Inv-loop μ-loop
 loop-again c = search needs
 
-same-length-3 : tie.Need-same-length-3 Inv-loop μ-loop
-same-length-3 c = search needs
-
-same-length-4 : tie.Need-same-length-4 Inv-loop μ-loop
-same-length-4 c = search needs
+same-length-2 : tie.Need-same-length-2 Inv-loop μ-loop
+same-length-2 c = search needs
 
 returns-2 : tie.Need-returns-2 Inv-loop μ-loop
 returns-2 c = search needs
@@ -54,10 +48,8 @@ turns-spec =
     sub-left
     turn-requires
     same-length
-    same-length-2
     returns
     loop-less
     loop-again
-    same-length-3
-    same-length-4
+    same-length-2
     returns-2)

@@ -6,10 +6,10 @@ use Rattle.deep.proofs.turns.Statement.{statement}
 use Rattle.deep.proofs.turns.Tie as tie
 
 abbrev Inv-loop : tie.InvT-loop
-Inv-loop log₀ hold₀ chunk₀ out₀ reading₀ left₀ log hold chunk out reading left = (length log ≡ length log₀) × (length chunk ≡ length chunk₀)
+Inv-loop log₀ hold₀ chunk₀ reading₀ left₀ log hold chunk reading left = (length log ≡ length log₀) × (length chunk ≡ length chunk₀)
 
 abbrev μ-loop : tie.MeasureT-loop
-μ-loop log₀ hold₀ chunk₀ out₀ reading₀ left₀ log hold chunk out reading left = left
+μ-loop log₀ hold₀ chunk₀ reading₀ left₀ log hold chunk reading left = left
 
 begin-requires : tie.Need-begin-requires Inv-loop μ-loop
 begin-requires c κs = search needs

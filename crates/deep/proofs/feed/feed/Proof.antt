@@ -7,10 +7,10 @@ use Rattle.deep.proofs.feed.feed.Statement.{statement}
 use Rattle.deep.proofs.feed.feed.Tie as tie
 
 abbrev Inv-loop : tie.InvT-loop
-Inv-loop held log₀ hold₀ chunk out₀ place₀ held₀ start₀ log hold out place held' start = (length log ≡ length log₀) × (start ≤ length chunk)
+Inv-loop log₀ hold₀ chunk reading₀ start₀ log hold reading start = (length log ≡ length log₀) × (start ≤ length chunk)
 
 abbrev μ-loop : tie.MeasureT-loop
-μ-loop held log₀ hold₀ chunk out₀ place₀ held₀ start₀ log hold out place held' start = length chunk - start
+μ-loop log₀ hold₀ chunk reading₀ start₀ log hold reading start = length chunk - start
 
 loop-holds : tie.Need-loop-holds Inv-loop μ-loop
 loop-holds c = search needs
@@ -18,17 +18,17 @@ loop-holds c = search needs
 find-requires : tie.Need-find-requires Inv-loop μ-loop
 find-requires c κs = search needs
 
-sub-keep-part : tie.Need-sub-keep-part Inv-loop μ-loop
-sub-keep-part c = search needs
+sub-keep : tie.Need-sub-keep Inv-loop μ-loop
+sub-keep c = search needs
 
-part-keep-part-start : tie.Need-part-keep-part-start Inv-loop μ-loop
-part-keep-part-start c = search needs
+part-keep-start : tie.Need-part-keep-start Inv-loop μ-loop
+part-keep-start c = search needs
 
-part-keep-part-end : tie.Need-part-keep-part-end Inv-loop μ-loop
-part-keep-part-end c = search needs
+part-keep-end : tie.Need-part-keep-end Inv-loop μ-loop
+part-keep-end c = search needs
 
-keep-part-requires : tie.Need-keep-part-requires Inv-loop μ-loop
-keep-part-requires c κs = search needs
+keep-requires : tie.Need-keep-requires Inv-loop μ-loop
+keep-requires c κs = search needs
 
 same-length : tie.Need-same-length Inv-loop μ-loop
 same-length c = search needs
@@ -68,10 +68,10 @@ feed-spec =
     μ-loop
     loop-holds
     find-requires
-    sub-keep-part
-    part-keep-part-start
-    part-keep-part-end
-    keep-part-requires
+    sub-keep
+    part-keep-start
+    part-keep-end
+    keep-requires
     same-length
     returns
     add-start
