@@ -1,5 +1,6 @@
 // A call on the bay with what it is lent, printed. Calls: S start, U startup, u update, r reset, b standby,
 // n settings, t status.
+use super::given;
 use super::panel;
 use super::show;
 use rf_call::Answer;
@@ -12,15 +13,19 @@ use slots::Turn;
 use slots::Verdict;
 ghost use Prim.Native.Nat.{_≤_};
 
-// The bay, and what its calls are lent: a slot, the rows used, and how much of the log, of the replies and
-// of the numbers.
-pub struct Desk {
-    pub rack: Rack,
+// What a call is lent: a slot, the rows used, and how much of the log, of the replies and of the numbers.
+pub struct Lent {
     pub slot: u8,
     pub used: usize,
     pub log: usize,
     pub replies: usize,
     pub numbers: usize,
+}
+
+// The bay, and what its calls are lent.
+pub struct Desk {
+    pub rack: Rack,
+    pub lent: Lent,
 }
 
 // A step: the call, what it is given, the sign of its replies, its settings.
@@ -51,93 +56,62 @@ fn close(log: &[u8], slot: u8, from: usize, turn: Turn) {
     show::end(log, from, turn.used);
 }
 
-// The calls that are one event.
-fn press(log: &mut [u8], replies: &[u8], desk: Desk, call: u8, givens: Givens) -> Turn {
-    let rack = desk.rack;
+// The calls that are given no settings and tell no numbers.
+fn press(log: &mut [u8], replies: &[u8], rack: Rack, lent: Lent, call: u8, givens: Givens) -> Turn {
+    let slot = lent.slot;
+    let used = lent.used;
+    if call == b'u' {
+        return rack::update(rack, slot, givens, log, used, replies);
+    }
     if call == b'U' {
-        return rack::startup(rack, desk.slot, givens, log, desk.used, replies);
+        return rack::startup(rack, slot, givens, log, used, replies);
     }
     if call == b'r' {
-        return rack::reset(rack, desk.slot, givens, log, desk.used, replies);
+        return rack::reset(rack, slot, givens, log, used, replies);
     }
-    rack::standby(rack, desk.slot, givens, log, desk.used, replies)
+    rack::standby(rack, slot, givens, log, used, replies)
 }
 
-fn update(log: &mut [u8], replies: &[u8], desk: Desk, givens: Givens) -> Turn {
-    let rack = desk.rack;
-    rack::update(rack, desk.slot, givens, log, desk.used, replies)
-}
-
-fn status(log: &mut [u8], replies: &[u8], desk: Desk, givens: Givens, numbers: &mut [f32]) -> Turn {
-    let rack = desk.rack;
+// The numbers are 7.0 before a status; they are printed with the place past the seventh.
+fn measure(log: &mut [u8], replies: &[u8], rack: Rack, lent: Lent, givens: Givens) -> Turn {
+    let mut numbers = [7.0; 8];
+    let places = least(lent.numbers, 8);
     let detectors = Detectors {
         output: 1500,
         reflected: 250,
     };
-    let slot = desk.slot;
-    let used = desk.used;
-    rack::status(rack, slot, detectors, givens, log, used, replies, numbers)
-}
-
-// The numbers are 7.0 before a status; they are printed with the place past the seventh.
-fn measure(log: &mut [u8], replies: &[u8], desk: Desk, givens: Givens) -> Turn {
-    let mut numbers = [7.0; 8];
-    let places = least(desk.numbers, 8);
-    let turn = status(log, replies, desk, givens, &mut numbers[0..places]);
+    let slot = lent.slot;
+    let used = lent.used;
+    let part = &mut numbers[0..places];
+    let turn = rack::status(rack, slot, detectors, givens, log, used, replies, part);
     panel::numbers(numbers);
     turn
 }
 
 // A start has the flag of presence but where the replies' sign is `n`.
-fn start(log: &mut [u8], replies: &[u8], desk: Desk, reply: u8, settings: ChannelSettings) -> Turn {
-    let rack = desk.rack;
-    let present = reply != b'n';
-    rack::start(rack, desk.slot, settings, present, log, desk.used, replies)
-}
-
-fn set(
-    log: &mut [u8],
-    replies: &[u8],
-    desk: Desk,
-    givens: Givens,
-    settings: ChannelSettings,
-) -> Turn {
-    let rack = desk.rack;
-    rack::settings(rack, desk.slot, settings, givens, log, desk.used, replies)
-}
-
-fn ask(log: &mut [u8], replies: &[u8], desk: Desk, step: Step) -> Turn {
+fn ask(log: &mut [u8], replies: &[u8], rack: Rack, lent: Lent, step: Step) -> Turn {
     let call = step.call;
     let givens = step.givens;
     let settings = step.settings;
     if call == b'S' {
-        return start(log, replies, desk, step.reply, settings);
+        let present = step.reply != b'n';
+        return rack::start(rack, lent.slot, settings, present, log, lent.used, replies);
     }
     if call == b'n' {
-        return set(log, replies, desk, givens, settings);
+        return rack::settings(rack, lent.slot, settings, givens, log, lent.used, replies);
     }
     if call == b't' {
-        return measure(log, replies, desk, givens);
+        return measure(log, replies, rack, lent, givens);
     }
-    if call == b'u' {
-        return update(log, replies, desk, givens);
-    }
-    press(log, replies, desk, call, givens)
+    press(log, replies, rack, lent, call, givens)
 }
 
-// Lends what the desk says, and prints what comes of it.
-pub fn take(log: &mut [u8], replies: &[u8], desk: Desk, step: Step) -> Desk {
-    let bytes = least(desk.log, log.len());
-    let answers = least(desk.replies, replies.len());
-    let turn = ask(&mut log[0..bytes], &replies[0..answers], desk, step);
-    close(log, desk.slot, desk.used, turn);
-    let rack = turn.rack;
-    Desk {
-        rack,
-        slot: desk.slot,
-        used: turn.used,
-        log: desk.log,
-        replies: desk.replies,
-        numbers: desk.numbers,
-    }
+// Lends what is said, and prints what comes of it.
+pub fn take(log: &mut [u8], rack: Rack, lent: Lent, step: Step) -> Turn {
+    let replies = given::replies(step.reply);
+    let bytes = least(lent.log, log.len());
+    let answers = least(lent.replies, 999);
+    let turn = ask(&mut log[0..bytes], &replies[0..answers], rack, lent, step);
+    close(log, lent.slot, lent.used, turn);
+    turn
 }

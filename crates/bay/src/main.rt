@@ -9,7 +9,10 @@ mod script;
 mod show;
 
 fn main() {
-    channel::all();
-    answers::all();
-    edges::all();
+    channel::states();
+    channel::failures();
+    answers::refused();
+    answers::answered();
+    edges::limits();
+    edges::events();
 }

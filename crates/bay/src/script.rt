@@ -7,12 +7,14 @@
 // the largest count of rows used, a prints what stands in each slot.
 use super::desk;
 use super::desk::Desk;
+use super::desk::Lent;
 use super::desk::Step;
 use super::given;
 use super::panel;
 use super::show;
 use slots::Rack;
-ghost use Prim.Native.Nat.{_≤_};
+ghost use Prim.Native.Nat.{_+_, _≤_};
+ghost use lib.ListN.{length};
 
 fn digit(sign: u8) -> u32
     ensures { λ r. ⌜ r ≤ 9 ⌝ }
@@ -26,10 +28,15 @@ fn digit(sign: u8) -> u32
     (sign - 48) as u32
 }
 
-fn number_of(hundreds: u8, tens: u8, ones: u8) -> u32
+// Three digits of a word.
+fn number_at(word: &[u8], from: usize) -> u32
+    requires { ⌜ from + 3 ≤ length (now word) ⌝ }
     ensures { λ r. ⌜ r ≤ 999 ⌝ }
 {
-    100 * digit(hundreds) + 10 * digit(tens) + digit(ones)
+    let hundreds = digit(word[from]);
+    let tens = digit(word[from + 1]);
+    let ones = digit(word[from + 2]);
+    100 * hundreds + 10 * tens + ones
 }
 
 // Prints what stands in each slot.
@@ -44,9 +51,9 @@ fn survey(rack: Rack) {
     }
 }
 
-// The desk after a word that begins with `=`.
-fn arrange(desk: Desk, sign: u8, n: u32) -> Desk {
-    let mut out = desk;
+// What is lent after a word that begins with `=`.
+fn arrange(lent: Lent, sign: u8, n: u32) -> Lent {
+    let mut out = lent;
     if sign == b's' {
         out.slot = (n % 256) as u8;
     }
@@ -69,71 +76,82 @@ fn arrange(desk: Desk, sign: u8, n: u32) -> Desk {
 }
 
 // Takes a word that begins with `=`.
-fn change(desk: Desk, sign: u8, n: u32) -> Desk {
+fn change(rack: Rack, lent: Lent, sign: u8, n: u32) -> Lent {
     show::text(b"\n");
     if sign == b'a' {
-        let rack = desk.rack;
         survey(rack);
     }
-    arrange(desk, sign, n)
+    arrange(lent, sign, n)
 }
 
-// The step that a word's signs stand for.
-fn step_of(call: u8, tick: u32, given: u8, reply: u8, settings: u8) -> Step {
-    let givens = given::givens(given, tick);
-    let settings = given::settings(settings);
+// The step that a word stands for.
+fn step_of(word: &[u8]) -> Step
+    requires { ⌜ 7 ≤ length (now word) ⌝ }
+{
+    let tick = number_at(word, 1);
+    let givens = given::givens(word[4], tick);
+    let settings = given::settings(word[6]);
     Step {
-        call,
+        call: word[0],
         givens,
-        reply,
+        reply: word[5],
         settings,
     }
 }
 
-fn call(log: &mut [u8], desk: Desk, step: Step) -> Desk {
-    let replies = given::replies(step.reply);
-    desk::take(log, &replies, desk, step)
-}
-
 // Prints a word and takes its step.
 fn take(log: &mut [u8], desk: Desk, word: &[u8]) -> Desk {
-    if word.len() != 7 {
+    if word.len() < 7 {
         return desk;
     }
     show::text(word);
+    let rack = desk.rack;
+    let mut lent = desk.lent;
     if word[0] == b'=' {
-        let n = number_of(word[2], word[3], word[4]);
-        return change(desk, word[1], n);
+        let n = number_at(word, 2);
+        let lent = change(rack, lent, word[1], n);
+        return Desk { rack, lent };
     }
-    let tick = number_of(word[1], word[2], word[3]);
-    let step = step_of(word[0], tick, word[4], word[5], word[6]);
-    call(log, desk, step)
+    let step = step_of(word);
+    let turn = desk::take(log, rack, lent, step);
+    let rack = turn.rack;
+    lent.used = turn.used;
+    Desk { rack, lent }
 }
 
-// Runs the words of a script, which are parted by one sign each, from an empty bay and slot 5. A line of
-// dots begins it.
-pub fn run(script: &[u8]) {
+// Runs a script from an empty bay and slot 5; a sign stands after each of its words. A line of dots begins it.
+fn run(script: &[u8]) {
     let mut log = [show::FRESH; 4096];
     let rack = slots::empty();
-    let mut desk = Desk {
-        rack,
+    let lent = Lent {
         slot: 5,
         used: 0,
         log: 4096,
         replies: 135,
         numbers: 8,
     };
+    let mut desk = Desk { rack, lent };
+    let words = script.len() / 8;
     let mut i = 0;
     show::text(b"..\n");
-    while i < script.len() {
-        if script.len() - i < 7 {
+    while i < words {
+        let from = 8 * i;
+        let end = from + 7;
+        desk = take(&mut log, desk, &script[from..end]);
+        i += 1;
+    }
+}
+
+// Runs scripts, each of which is a line.
+pub fn each(scripts: &[u8]) {
+    let mut i = 0;
+    while i < scripts.len() {
+        let end = bytes::scan::find(scripts, i, scripts.len(), b'\n');
+        if scripts.len() <= end {
             return;
         }
-        let end = i + 7;
-        desk = take(&mut log, desk, &script[i..end]);
-        i = end;
-        if i < script.len() {
-            i += 1;
-        }
+        let next = end + 1;
+        run(&scripts[i..next]);
+        i = next;
     }
 }

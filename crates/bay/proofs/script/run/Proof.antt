@@ -3,14 +3,14 @@ use Prim.Native.Nat.{_-_, _≤_}
 use mathlib.Core.Path.{_≡_}
 use lib.ListN.{length}
 use borrow.Author.Needs.{needs}
-use Rattle.bay.proofs.script.run.Tie as tie
 use Rattle.bay.proofs.script.run.Statement.{statement}
+use Rattle.bay.proofs.script.run.Tie as tie
 
 abbrev Inv-loop : tie.InvT-loop
-Inv-loop script log₀ desk₀ i₀ log desk i = (i ≤ length script) × (length log ≡ 4096)
+Inv-loop script log₀ desk₀ words i₀ log desk i = (i ≤ words) × (length log ≡ 4096)
 
 abbrev μ-loop : tie.MeasureT-loop
-μ-loop script log₀ desk₀ i₀ log desk i = length script - i
+μ-loop script log₀ desk₀ words i₀ log desk i = words - i
 
 empty-requires : tie.Need-empty-requires Inv-loop μ-loop
 empty-requires c κs = search needs
@@ -24,11 +24,8 @@ text-requires c κs = search needs
 loop-holds : tie.Need-loop-holds Inv-loop μ-loop
 loop-holds c = search needs
 
-sub-if1 : tie.Need-sub-if1 Inv-loop μ-loop
-sub-if1 c = search needs
-
-returns : tie.Need-returns Inv-loop μ-loop
-returns c = search needs
+mul-from : tie.Need-mul-from Inv-loop μ-loop
+mul-from c = search needs
 
 add-end : tie.Need-add-end Inv-loop μ-loop
 add-end c = search needs
@@ -57,14 +54,8 @@ loop-less c = search needs
 loop-again : tie.Need-loop-again Inv-loop μ-loop
 loop-again c = search needs
 
-loop-less-2 : tie.Need-loop-less-2 Inv-loop μ-loop
-loop-less-2 c = search needs
-
-loop-again-2 : tie.Need-loop-again-2 Inv-loop μ-loop
-loop-again-2 c = search needs
-
-returns-2 : tie.Need-returns-2 Inv-loop μ-loop
-returns-2 c = search needs
+returns : tie.Need-returns Inv-loop μ-loop
+returns c = search needs
 
 pub run-spec : {M : Type 1} → statement M
 run-spec =
@@ -76,8 +67,7 @@ run-spec =
     slice-aggregate-text
     text-requires
     loop-holds
-    sub-if1
-    returns
+    mul-from
     add-end
     slice-aggregate-take
     sub-take
@@ -87,6 +77,4 @@ run-spec =
     add-i
     loop-less
     loop-again
-    loop-less-2
-    loop-again-2
-    returns-2)
+    returns)
