@@ -1,4 +1,6 @@
 // ad5627: a converter of two outputs, written over the bus.
+#![tactic(auto)]
+
 ghost use Rattle.std.specs.Prelude.{◌≤◌, ◌≡◌};
 ghost use Rattle.bus.specs.Run.{Does, Room};
 ghost use Rattle.gate.specs.Enter.{Enters};
@@ -15,7 +17,7 @@ use gate::{Bar, Gate};
 const ADDRESS: u8 = 0x0E;
 
 // Which output a write is for.
-#[derive(Drop)]
+#[derive(Clone, Copy)]
 pub enum Dac {
     A,
     B,
@@ -23,21 +25,21 @@ pub enum Dac {
 }
 
 // What the opening answers.
-#[derive(Drop)]
+#[derive(Clone, Copy)]
 pub enum Opening {
     Ready,
     Bus,
 }
 
 // What the opening answers, and where the next row goes.
-#[derive(Drop)]
+#[derive(Clone, Copy)]
 pub struct Opened {
     pub opening: Opening,
     pub next: Cursor,
 }
 
 // What programming answers: the volts that the code sent stands for, a refusal for range, or a bus failure.
-#[derive(Drop)]
+#[derive(Clone, Copy)]
 pub enum Output {
     Volts(f32),
     Range,
@@ -45,7 +47,7 @@ pub enum Output {
 }
 
 // What programming answers, and where the next row goes.
-#[derive(Drop)]
+#[derive(Clone, Copy)]
 pub struct Programmed {
     pub output: Output,
     pub next: Cursor,
@@ -146,13 +148,13 @@ pub fn set_voltage_at(
 }
 
 // What the opening answers when it is called by itself.
-#[derive(Drop)]
+#[derive(Clone, Copy)]
 pub enum OpeningAnswer {
     Ran(Opening),
     Refused(Bar),
 }
 
-#[derive(Drop)]
+#[derive(Clone, Copy)]
 pub struct OpeningTold {
     pub answer: OpeningAnswer,
     pub used: usize,
@@ -182,13 +184,13 @@ pub fn default(log: &mut [u8], used: usize, replies: &[u8], slot: u8) -> Opening
 }
 
 // What programming answers when it is called by itself.
-#[derive(Drop)]
+#[derive(Clone, Copy)]
 pub enum Answer {
     Ran(Output),
     Refused(Bar),
 }
 
-#[derive(Drop)]
+#[derive(Clone, Copy)]
 pub struct Told {
     pub answer: Answer,
     pub used: usize,

@@ -1,5 +1,7 @@
 // ads7924: a converter of four inputs that raises an alarm when a limit is passed, over the bus. The
 // forms named `_at` are for callers that have made sure of the room; the crate `ads7924_entry` has the others.
+#![tactic(auto)]
+
 ghost use Rattle.std.specs.Prelude.{◌+◌, ◌*◌, ◌≤◌, ◌≡◌};
 ghost use Rattle.bus.specs.Run.{transfer, Does, Room};
 ghost use Rattle.ads7924.specs.Layout.{number, from, bit, enabling};
@@ -37,7 +39,7 @@ const ALARM_AFTER_ONE: u8 = 0x20;
 
 const RESET_CODE: u8 = 0xAA;
 
-#[derive(Drop)]
+#[derive(Clone, Copy)]
 pub enum Channel {
     Zero,
     One,
@@ -46,32 +48,32 @@ pub enum Channel {
 }
 
 // What the opening answers, and where the next row goes.
-#[derive(Drop)]
+#[derive(Clone, Copy)]
 pub enum Opening {
     Ready,
     Bus,
 }
 
-#[derive(Drop)]
+#[derive(Clone, Copy)]
 pub struct Opened {
     pub opening: Opening,
     pub next: Cursor,
 }
 
 // What a measurement answers: of one channel, or of all four.
-#[derive(Drop)]
+#[derive(Clone, Copy)]
 pub enum Reading {
     Volts(f32),
     Bus,
 }
 
-#[derive(Drop)]
+#[derive(Clone, Copy)]
 pub struct Measured {
     pub reading: Reading,
     pub next: Cursor,
 }
 
-#[derive(Drop)]
+#[derive(Clone, Copy)]
 pub struct Four {
     pub v0: f32,
     pub v1: f32,
@@ -79,40 +81,40 @@ pub struct Four {
     pub v3: f32,
 }
 
-#[derive(Drop)]
+#[derive(Clone, Copy)]
 pub enum Readings {
     Volts(Four),
     Bus,
 }
 
-#[derive(Drop)]
+#[derive(Clone, Copy)]
 pub struct Scanned {
     pub readings: Readings,
     pub next: Cursor,
 }
 
 // What clearing the alarm answers: bit k is set where channel k raised it.
-#[derive(Drop)]
+#[derive(Clone, Copy)]
 pub enum Alarm {
     Mask(u8),
     Bus,
 }
 
-#[derive(Drop)]
+#[derive(Clone, Copy)]
 pub struct Cleared {
     pub alarm: Alarm,
     pub next: Cursor,
 }
 
 // What setting a channel's limits answers.
-#[derive(Drop)]
+#[derive(Clone, Copy)]
 pub enum Armed {
     Set,
     Bounds,
     Bus,
 }
 
-#[derive(Drop)]
+#[derive(Clone, Copy)]
 pub struct Limited {
     pub armed: Armed,
     pub next: Cursor,

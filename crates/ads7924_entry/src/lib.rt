@@ -1,5 +1,7 @@
 // The ads7924's driver called by itself: the slot and the room are tested first, and nothing is asked
 // of the caller.
+#![tactic(auto)]
+
 pub mod numbers;
 
 ghost use Rattle.bus.specs.Run.{mapped};
@@ -9,13 +11,13 @@ ghost use Rattle.ads7924.specs.Calls.{opening, get_voltage, get_voltages, clear_
 use ads7924::{Alarm, Armed, Channel, Opening, Reading, Readings};
 use gate::{Bar, Gate};
 
-#[derive(Drop)]
+#[derive(Clone, Copy)]
 pub enum DefaultAnswer {
     Ran(Opening),
     Refused(Bar),
 }
 
-#[derive(Drop)]
+#[derive(Clone, Copy)]
 pub struct DefaultTold {
     pub answer: DefaultAnswer,
     pub used: usize,
@@ -44,13 +46,13 @@ pub fn default(log: &mut [u8], used: usize, replies: &[u8], slot: u8) -> Default
     }
 }
 
-#[derive(Drop)]
+#[derive(Clone, Copy)]
 pub enum VoltageAnswer {
     Ran(Reading),
     Refused(Bar),
 }
 
-#[derive(Drop)]
+#[derive(Clone, Copy)]
 pub struct VoltageTold {
     pub answer: VoltageAnswer,
     pub used: usize,
@@ -85,13 +87,13 @@ pub fn get_voltage(
     }
 }
 
-#[derive(Drop)]
+#[derive(Clone, Copy)]
 pub enum VoltagesAnswer {
     Ran(Readings),
     Refused(Bar),
 }
 
-#[derive(Drop)]
+#[derive(Clone, Copy)]
 pub struct VoltagesTold {
     pub answer: VoltagesAnswer,
     pub used: usize,
@@ -120,13 +122,13 @@ pub fn get_voltages(log: &mut [u8], used: usize, replies: &[u8], slot: u8) -> Vo
     }
 }
 
-#[derive(Drop)]
+#[derive(Clone, Copy)]
 pub enum AlarmAnswer {
     Ran(Alarm),
     Refused(Bar),
 }
 
-#[derive(Drop)]
+#[derive(Clone, Copy)]
 pub struct AlarmTold {
     pub answer: AlarmAnswer,
     pub used: usize,
@@ -155,13 +157,13 @@ pub fn clear_alarm(log: &mut [u8], used: usize, replies: &[u8], slot: u8) -> Ala
     }
 }
 
-#[derive(Drop)]
+#[derive(Clone, Copy)]
 pub enum ThresholdsAnswer {
     Ran(Armed),
     Refused(Bar),
 }
 
-#[derive(Drop)]
+#[derive(Clone, Copy)]
 pub struct ThresholdsTold {
     pub answer: ThresholdsAnswer,
     pub used: usize,

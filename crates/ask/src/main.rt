@@ -1,5 +1,7 @@
 // Asks the drivers and the transforms one question a line, so that they can be compared with another implementation:
 // reads the questions on standard input and writes an answer to each on standard output.
+#![tactic(auto)]
+
 mod answer;
 mod chips;
 mod monitor;
@@ -12,7 +14,7 @@ use libc::{STDERR_FILENO, STDIN_FILENO, STDOUT_FILENO};
 const LF: u8 = 10;
 
 // How many bytes of the next line are held, and whether there may be more to read.
-#[derive(Drop)]
+#[derive(Clone, Copy)]
 struct Reading {
     held: usize,
     more: bool,

@@ -12,7 +12,7 @@ use ads7924::Channel;
 use field::Real;
 use linear_transformation::LinearTransformation;
 
-#[derive(Drop)]
+#[derive(Clone, Copy)]
 pub enum Question {
     Map(LinearTransformation, f32),
     Invert(LinearTransformation, f32),
@@ -29,14 +29,14 @@ pub enum Question {
 }
 
 // A channel of the ads7924, or none.
-#[derive(Drop)]
+#[derive(Clone, Copy)]
 pub enum Input {
     Is(Channel),
     Not,
 }
 
 // An output of the ad5627, or none.
-#[derive(Drop)]
+#[derive(Clone, Copy)]
 pub enum Output {
     Is(Dac),
     Not,

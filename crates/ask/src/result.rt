@@ -2,7 +2,7 @@
 use ads7924::Four;
 
 // The data that an answer has.
-#[derive(Drop)]
+#[derive(Clone, Copy)]
 pub enum Data {
     Nothing,
     Float(f32),
@@ -11,7 +11,7 @@ pub enum Data {
 }
 
 // The number of the answer, its data, and how many rows of the log it used; or no question was asked.
-#[derive(Drop)]
+#[derive(Clone, Copy)]
 pub enum Outcome {
     Told(u8, Data, usize),
     Bad,

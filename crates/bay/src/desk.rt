@@ -9,7 +9,7 @@ use rf_status::Detectors;
 use slots::{Rack, Turn, Verdict};
 
 // What a call is lent: a slot, the rows used, and how much of the log, of the replies and of the numbers.
-#[derive(Drop)]
+#[derive(Clone, Copy)]
 pub struct Lent {
     pub slot: u8,
     pub used: usize,
@@ -19,14 +19,14 @@ pub struct Lent {
 }
 
 // The bay, and what its calls are lent.
-#[derive(Drop)]
+#[derive(Clone, Copy)]
 pub struct Desk {
     pub rack: Rack,
     pub lent: Lent,
 }
 
 // A step: the call, what it is given, the sign of its replies, its settings.
-#[derive(Drop)]
+#[derive(Clone, Copy)]
 pub struct Step {
     pub call: u8,
     pub givens: Givens,

@@ -1,4 +1,6 @@
 // Drives the bay by scripts, and prints each call's answer, what stands in the slot and the rows that were added.
+#![tactic(auto)]
+
 mod answers;
 mod channel;
 mod desk;

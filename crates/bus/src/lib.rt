@@ -1,12 +1,14 @@
 // The bus as a caller sees it: a log of rows, sixteen bytes each, and replies, nine bytes each. Every
 // driver goes through `add_note` and `run_transfer`.
+#![tactic(auto)]
+
 ghost use Rattle.std.specs.Prelude.{◌≡◌, List, ◌++◌, ℕ, ◌+◌, ◌*◌, ◌≤◌, ◌<◌, length, drop};
 ghost use Rattle.bus.specs.Rows.{head, level_of, no_data, status_of, data_of, note_head, transfer_head, laid, put};
 ghost use Rattle.bus.specs.Replies.{kept_of, got_at};
 ghost use Rattle.bus.specs.Run.{note, transfer, Does, Room};
 
 // Where a call stands: the slot that it names, the log rows in use, the replies taken.
-#[derive(Drop)]
+#[derive(Clone, Copy)]
 pub struct Cursor {
     pub slot: u8,
     pub used: usize,
@@ -14,7 +16,7 @@ pub struct Cursor {
 }
 
 // The eight data bytes of a reply. An enum can hold no array.
-#[derive(Drop)]
+#[derive(Clone, Copy)]
 pub struct Eight {
     pub b0: u8,
     pub b1: u8,
@@ -27,7 +29,7 @@ pub struct Eight {
 }
 
 // What is logged and takes no reply: a pin's level, or a wait in microseconds.
-#[derive(Drop)]
+#[derive(Clone, Copy)]
 pub enum Note {
     SignalOn(bool),
     EnablePower(bool),
@@ -35,7 +37,7 @@ pub enum Note {
 }
 
 // What is logged and takes a reply.
-#[derive(Drop)]
+#[derive(Clone, Copy)]
 pub enum Transfer {
     Write2 {
         address: u8,
@@ -60,21 +62,21 @@ pub enum Transfer {
 }
 
 // What came back: the bytes asked for, with 0 for the others, or a failure.
-#[derive(Drop)]
+#[derive(Clone, Copy)]
 pub enum Got {
     Acked(Eight),
     Failed,
 }
 
 // What came back, and where the next row goes.
-#[derive(Drop)]
+#[derive(Clone, Copy)]
 pub struct Taken {
     pub got: Got,
     pub next: Cursor,
 }
 
 // A row but for the slot, the status and the bytes in.
-#[derive(Drop)]
+#[derive(Clone, Copy)]
 pub struct Head {
     pub kind: u8,
     pub address: u8,

@@ -1,11 +1,13 @@
 // The comma-separated columns of one line, with no quotes.
+#![tactic(auto)]
+
 ghost use Rattle.std.specs.Prelude.{◌≡◌, length};
 ghost use Rattle.columns.specs.Columns.{count_of, column_of, Spans};
 
 const COMMA: u8 = b',';
 
 // The bytes of a line from `start` up to, not including, `end`.
-#[derive(Drop)]
+#[derive(Clone, Copy)]
 pub struct Span {
     pub start: usize,
     pub end: usize,

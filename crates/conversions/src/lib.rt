@@ -1,19 +1,21 @@
 // Volts to codes and back, for the chips of a channel, each in its own range. The drivers send and
 // read these codes; here nothing is sent yet.
+#![tactic(auto)]
+
 ghost use Rattle.std.specs.Prelude.{◌≡◌};
 ghost use Rattle.conversions.specs.Codes.{code_of, volts_of, ad5627_code, dac7571_code, limit_of, ads7924_codes, ads7924_volts};
 
 use cut::cut;
 
 // What a conversion answers: the code to send, or a refusal for range.
-#[derive(Drop)]
+#[derive(Clone, Copy)]
 pub enum Conversion {
     Code(u16),
     Range,
 }
 
 // What the conversion of a pair of alarm limits answers: both codes, or a refusal for range.
-#[derive(Drop)]
+#[derive(Clone, Copy)]
 pub enum Limits {
     Codes { low: u16, high: u16 },
     Bounds,

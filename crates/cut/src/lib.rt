@@ -1,5 +1,7 @@
 // Rust's `as u16` of an f32, from the bits of the number: a NaN and what is below one give 0, what is
 // 65,535 or more gives 65,535, and anything else loses its fraction.
+#![tactic(auto)]
+
 ghost use Rattle.std.specs.Prelude.{◌≡◌, ◌/◌, ◌^◌, ◌≤◌};
 ghost use Rattle.std.specs.Float.{binary32};
 ghost use Rattle.std.specs.Float.Ieee.{of_bits, to_unsigned};

@@ -1,4 +1,6 @@
 // dac7571: a converter of one output, written over the bus.
+#![tactic(auto)]
+
 ghost use Rattle.std.specs.Prelude.{◌≡◌};
 ghost use Rattle.bus.specs.Run.{Does, Room};
 ghost use Rattle.gate.specs.Enter.{Enters};
@@ -10,7 +12,7 @@ use conversions::Conversion;
 use gate::{Bar, Gate};
 
 // What programming answers: the volts that the code sent stands for, a refusal for range, or a bus failure.
-#[derive(Drop)]
+#[derive(Clone, Copy)]
 pub enum Output {
     Volts(f32),
     Range,
@@ -18,7 +20,7 @@ pub enum Output {
 }
 
 // What programming answers, and where the next row goes.
-#[derive(Drop)]
+#[derive(Clone, Copy)]
 pub struct Programmed {
     pub output: Output,
     pub next: Cursor,
@@ -54,13 +56,13 @@ pub fn set_voltage_at(log: &mut [u8], replies: &[u8], at: Cursor, voltage: f32) 
 }
 
 // What the driver answers when it is called by itself.
-#[derive(Drop)]
+#[derive(Clone, Copy)]
 pub enum Answer {
     Ran(Output),
     Refused(Bar),
 }
 
-#[derive(Drop)]
+#[derive(Clone, Copy)]
 pub struct Told {
     pub answer: Answer,
     pub used: usize,

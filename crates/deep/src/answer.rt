@@ -8,7 +8,7 @@ use slots::{Rack, Turn, Verdict};
 use trace::Parsed;
 
 // What goes on from line to line: the rack, the rows used, and the number of the last line.
-#[derive(Drop)]
+#[derive(Clone, Copy)]
 pub struct Place {
     pub rack: Rack,
     pub used: usize,
@@ -16,7 +16,7 @@ pub struct Place {
 }
 
 // The place afterwards, and how many bytes were written.
-#[derive(Drop)]
+#[derive(Clone, Copy)]
 pub struct Told {
     pub place: Place,
     pub past: usize,

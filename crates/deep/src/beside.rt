@@ -13,7 +13,7 @@ fn put_cause(out: &mut [u8], at: usize, verdict: Verdict) -> usize {
 }
 
 // The tick until which a channel powers up or down, or none.
-#[derive(Drop)]
+#[derive(Clone, Copy)]
 pub enum Deadline {
     At(u64),
     Not,

@@ -7,7 +7,7 @@ const LF: u8 = 10;
 
 // What goes on from chunk to chunk: the place, how many bytes of the next line are held, and whether there may be
 // more to read.
-#[derive(Drop)]
+#[derive(Clone, Copy)]
 pub struct Reading {
     pub place: Place,
     pub held: usize,

@@ -9,7 +9,7 @@ use slots::{Rack, Turn};
 use trace::Parsed;
 
 // The three columns more: whether the module is present, and the millivolts of its two detectors.
-#[derive(Drop)]
+#[derive(Clone, Copy)]
 pub struct More {
     pub present: bool,
     pub output: u16,
@@ -17,14 +17,14 @@ pub struct More {
 }
 
 // The three columns, or one that does not fit.
-#[derive(Drop)]
+#[derive(Clone, Copy)]
 pub enum Tail {
     Is(More),
     Not,
 }
 
 // Millivolts, or no such number.
-#[derive(Drop)]
+#[derive(Clone, Copy)]
 pub enum Level {
     Is(u16),
     Not,

@@ -1,5 +1,7 @@
 // Makes the calls of traces and writes all that comes of each, so that the rack can be compared call by call with
 // another implementation: reads lines on standard input and writes a line for each on standard output.
+#![tactic(auto)]
+
 mod answer;
 mod beside;
 mod feed;

@@ -3,7 +3,7 @@ use super::{chips, lent, monitor, show};
 use ad5627::Dac;
 use ads7924::Channel;
 
-#[derive(Drop)]
+#[derive(Clone, Copy)]
 pub enum Entry {
     Mcp,
     Dac(u32),

@@ -1,5 +1,7 @@
 // Runs every driver by itself on good replies, with each of its transfers failing, at the limits of its range and at the
 // limits of the room, and prints the answers and the rows.
+#![tactic(auto)]
+
 mod cases;
 mod chips;
 mod edges;

@@ -1,5 +1,7 @@
 // Whether a call is let in to a slot: the answers 1 to 8, in their order. Only what is let in touches
 // anything.
+#![tactic(auto)]
+
 ghost use Rattle.std.specs.Prelude.{◌≡◌, []};
 ghost use Rattle.std.specs.Float.Ieee.Scale.{finite};
 ghost use Rattle.entry.specs.Tests.{free_rows, of_standing, of_room, of_given, temperature_fits, first_of, entry_of, number_of};
@@ -11,14 +13,14 @@ use rf_channel::{ChannelSettings, RfChannel};
 
 // A start with its settings and the flag that the module's other chips are present, or a request with
 // what is given to it.
-#[derive(Drop)]
+#[derive(Clone, Copy)]
 pub enum Call {
     Start(ChannelSettings, bool),
     Ask(Request, Givens),
 }
 
 // Why a call is not let in.
-#[derive(Drop)]
+#[derive(Clone, Copy)]
 pub enum Refusal {
     Slot,
     Empty,
@@ -31,14 +33,14 @@ pub enum Refusal {
 }
 
 // What is let in: a start, or a request with the channel that it is for.
-#[derive(Drop)]
+#[derive(Clone, Copy)]
 pub enum Admitted {
     Start(ChannelSettings, bool),
     Ask(RfChannel, Request, Givens),
 }
 
 // Let in; or not, and why.
-#[derive(Drop)]
+#[derive(Clone, Copy)]
 pub enum Entry {
     Open(Admitted),
     Shut(Refusal),

@@ -1,17 +1,19 @@
 // The numbers in the fields of one line of a replay trace, read from their bytes. What does not fit
 // answers `Not`, so no public function asks anything of its caller.
+#![tactic(auto)]
+
 ghost use Rattle.std.specs.Prelude.{◌≡◌, [], ◌∷◌, ◌<◌, ◌^◌};
 ghost use Rattle.field.specs.Field.{decimal_from, decimal_of, word_from, word_of, float_of};
 
 // A number of 32 bits, or no number.
-#[derive(Drop)]
+#[derive(Clone, Copy)]
 pub enum Number {
     Is(u32),
     Not,
 }
 
 // A float, or none.
-#[derive(Drop)]
+#[derive(Clone, Copy)]
 pub enum Real {
     Is(f32),
     Not,

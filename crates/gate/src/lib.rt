@@ -1,5 +1,7 @@
 // Whether a call is let in: the slot that it names, the room in the log and the replies. Only what is
 // let in touches the log.
+#![tactic(auto)]
+
 ghost use Rattle.std.specs.Prelude.{◌≡◌};
 ghost use Rattle.gate.specs.Gate.{room_of, gate_of, number_of};
 
@@ -11,7 +13,7 @@ pub const FREE_ROWS: usize = 20;
 pub const REPLY_BYTES: usize = 135;
 
 // Why a call is not let in.
-#[derive(Drop)]
+#[derive(Clone, Copy)]
 pub enum Bar {
     Slot,
     Log,
@@ -19,7 +21,7 @@ pub enum Bar {
 }
 
 // Let in, at this cursor; or not, and why.
-#[derive(Drop)]
+#[derive(Clone, Copy)]
 pub enum Gate {
     Open(Cursor),
     Shut(Bar),

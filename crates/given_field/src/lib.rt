@@ -1,4 +1,6 @@
 // What a line of a trace gives to a call: a temperature, and settings.
+#![tactic(auto)]
+
 ghost use Rattle.std.specs.Prelude.{◌≡◌};
 ghost use Rattle.given_field.specs.Given.{is_dash, warmth_of, pair_of, wanted_of, settings_of};
 
@@ -8,28 +10,28 @@ use rf_call::Temperature;
 use rf_channel::{ChannelSettings, ChannelState};
 
 // A temperature, also one that failed, or no such thing.
-#[derive(Drop)]
+#[derive(Clone, Copy)]
 pub enum Warmth {
     Is(Temperature),
     Not,
 }
 
 // A transform, or none.
-#[derive(Drop)]
+#[derive(Clone, Copy)]
 pub enum Pair {
     Is(LinearTransformation),
     Not,
 }
 
 // The state that settings ask for, or none.
-#[derive(Drop)]
+#[derive(Clone, Copy)]
 pub enum Wanted {
     Is(ChannelState),
     Not,
 }
 
 // Settings, or none.
-#[derive(Drop)]
+#[derive(Clone, Copy)]
 pub enum Fields {
     Is(ChannelSettings),
     Not,

@@ -1,4 +1,6 @@
 // A bay that is lent: what stands in it is changed where it lies.
+#![tactic(auto)]
+
 ghost use Rattle.std.specs.Prelude.{◌≡◌, length};
 ghost use Rattle.entry.specs.Tests.{free_rows};
 ghost use Rattle.slot_call.specs.Step.{stepped, Steps};

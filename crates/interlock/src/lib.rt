@@ -1,5 +1,7 @@
 // The code that the interlock chip gets for a trip level. Levels are set in dBm; the transform of the
 // output or of the reflected power says how many volts that is.
+#![tactic(auto)]
+
 ghost use Rattle.std.specs.Prelude.{◌≡◌};
 ghost use Rattle.interlock.specs.Level.{level_code};
 ghost use Rattle.interlock.specs.Demand3.{Right};

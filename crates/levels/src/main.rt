@@ -1,5 +1,7 @@
 // Prints which code each of a channel's trip levels becomes, from -12 to 42 dBm, for the transform of
 // the bench sheet: 20 dBm a volt, -10 dBm at 0 V. Before that, the bench sheet's volts.
+#![tactic(auto)]
+
 use conversions::Conversion;
 use libc::STDOUT_FILENO;
 use linear_transformation::LinearTransformation;

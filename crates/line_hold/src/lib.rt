@@ -1,5 +1,7 @@
 // The bytes of a line that is being read, held in a buffer of 514 that the caller lends. A line that fits
 // has at most 512 bytes: one byte more is for the CR before its end, and one to see that it is too long.
+#![tactic(auto)]
+
 ghost use Rattle.std.specs.Prelude.{◌≡◌, ◌≤◌, min, length, take};
 ghost use Rattle.line_hold.specs.Hold.{held_after, kept_in, held_past, kept_part, end_of, without_cr};
 

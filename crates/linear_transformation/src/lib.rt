@@ -1,9 +1,11 @@
 // A linear transformation y = x * slope + offset between two scales, as slope and offset travel in
 // the settings: one value of two f32. Every operation rounds once, and none is fused.
+#![tactic(auto)]
+
 ghost use Rattle.std.specs.Prelude.{◌≡◌};
 ghost use Rattle.linear_transformation.specs.Line.{line, map_of, invert_of};
 
-#[derive(Drop)]
+#[derive(Clone, Copy)]
 pub struct LinearTransformation {
     pub slope: f32,
     pub offset: f32,

@@ -1,4 +1,6 @@
 // mcp3221: a converter of one input, read over the bus.
+#![tactic(auto)]
+
 ghost use Rattle.std.specs.Prelude.{◌≡◌};
 ghost use Rattle.bus.specs.Run.{Does, Room};
 ghost use Rattle.gate.specs.Enter.{Enters};
@@ -9,14 +11,14 @@ use bus::{Cursor, Got, Transfer};
 use gate::{Bar, Gate};
 
 // What a measurement answers.
-#[derive(Drop)]
+#[derive(Clone, Copy)]
 pub enum Reading {
     Volts(f32),
     Bus,
 }
 
 // A measurement, and where the next row goes.
-#[derive(Drop)]
+#[derive(Clone, Copy)]
 pub struct Measured {
     pub reading: Reading,
     pub next: Cursor,
@@ -47,13 +49,13 @@ pub fn get_voltage_at(log: &mut [u8], replies: &[u8], at: Cursor, supply: f32) -
 }
 
 // What the driver answers when it is called by itself.
-#[derive(Drop)]
+#[derive(Clone, Copy)]
 pub enum Answer {
     Ran(Reading),
     Refused(Bar),
 }
 
-#[derive(Drop)]
+#[derive(Clone, Copy)]
 pub struct Told {
     pub answer: Answer,
     pub used: usize,

@@ -1,17 +1,19 @@
 // The fields of one line of a replay trace that are one of a few texts, flags and the names of calls.
 // Any other text answers `Not`.
+#![tactic(auto)]
+
 ghost use Rattle.std.specs.Prelude.{◌≡◌, cond};
 ghost use Rattle.names.specs.Names.{same, flag_of, name_of};
 
 // A flag, or none.
-#[derive(Drop)]
+#[derive(Clone, Copy)]
 pub enum Flag {
     Is(bool),
     Not,
 }
 
 // The name of a call, or no such name.
-#[derive(Drop)]
+#[derive(Clone, Copy)]
 pub enum Name {
     Start,
     Startup,

@@ -1,4 +1,6 @@
 // Replays the traces that its words name, one after the other, each under its name.
+#![tactic(auto)]
+
 mod turns;
 
 use libc::STDOUT_FILENO;

@@ -1,5 +1,7 @@
 // An f32 from the 32 bits that stand for it in a text, and back. A NaN has many patterns: each is read as the one NaN,
 // which is written as 7FC00000.
+#![tactic(auto)]
+
 ghost use Rattle.std.specs.Prelude.{◌≡◌};
 ghost use Rattle.std.specs.Float.{binary32};
 ghost use Rattle.std.specs.Float.Ieee.{of_bits, to_bits};

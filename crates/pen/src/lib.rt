@@ -1,5 +1,7 @@
 // Writing into a buffer that the caller lends, one text behind the other. What does not fit is left out, so that
 // nothing is asked of the caller: the buffers of the programs that compare have room enough.
+#![tactic(auto)]
+
 ghost use Rattle.std.specs.Prelude.{◌≡◌, [], ◌∷◌, ◌%◌};
 ghost use Rattle.text.specs.Texts.{decimal_text};
 ghost use Rattle.pen.specs.Ink.{Inked, each, flag_text, hex_digit, pair_text, hex_text, float_text, rows_text};

@@ -1,5 +1,7 @@
 // The calls that the bay's keeper has. Nothing is asked of the caller: what a call needs is tested, and an
 // answer says what was missing.
+#![tactic(auto)]
+
 ghost use Rattle.std.specs.Prelude.{◌≡◌, [], length};
 ghost use Rattle.entry.specs.Tests.{free_rows};
 ghost use Rattle.rack_call.specs.Calls.{called, Leaves};

@@ -1,5 +1,7 @@
 // Any call on a slot of a rack. It takes the rack by value and gives it back: the slot is read, stepped, and
 // put back.
+#![tactic(auto)]
+
 ghost use Rattle.std.specs.Prelude.{◌≡◌, length};
 ghost use Rattle.entry.specs.Tests.{free_rows};
 ghost use Rattle.rack_call.specs.Calls.{called, Leaves};

@@ -1,5 +1,7 @@
 // Replays a trace of the bay's calls: reads it on standard input, and writes what each line gives. What comes of a
 // read is proved; that one read follows another, and that what comes of each is written, is for the reader's eye.
+#![tactic(auto)]
+
 use libc::{STDERR_FILENO, STDIN_FILENO, STDOUT_FILENO};
 use replay_feed::{CHUNK, Replay};
 

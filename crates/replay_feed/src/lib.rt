@@ -1,5 +1,7 @@
 // The replay, chunk by chunk. The input may be cut anywhere: what is known of the line that a chunk ends
 // in goes on to the next, its bytes in a buffer that the caller lends.
+#![tactic(auto)]
+
 ghost use Rattle.std.specs.Prelude.{◌≡◌, ◌+◌, ◌*◌, ◌≤◌, length, take};
 ghost use Rattle.text.specs.Texts.{Wrote};
 ghost use Rattle.sheet.specs.Lines.{header_text};
@@ -15,7 +17,7 @@ pub const CHUNK: usize = 1024;
 
 // What goes on from chunk to chunk: the rack, the rows used, the number of the line that is being read, where
 // the header has 0, and how many of its bytes are held.
-#[derive(Drop)]
+#[derive(Clone, Copy)]
 pub struct Replay {
     pub rack: Rack,
     pub used: usize,
@@ -24,7 +26,7 @@ pub struct Replay {
 }
 
 // The replay afterwards, and the place past what was written.
-#[derive(Drop)]
+#[derive(Clone, Copy)]
 pub struct Fed {
     pub replay: Replay,
     pub past: usize,

@@ -1,5 +1,7 @@
 // One line of a trace, without its end: the call that it makes on slot 0, and the line that says what came
 // of it.
+#![tactic(auto)]
+
 ghost use Rattle.std.specs.Prelude.{true, ◌≡◌, ◌+◌, ◌≤◌, length};
 ghost use Rattle.reply_field.specs.Replies.{fits_of, padded_of};
 ghost use Rattle.rack_call.specs.Calls.{Leaves};
@@ -11,7 +13,7 @@ use slots::{Rack, Turn};
 use trace::Parsed;
 
 // What a line leaves: the rack, how many rows are used, and the place past what was written.
-#[derive(Drop)]
+#[derive(Clone, Copy)]
 pub struct Told {
     pub rack: Rack,
     pub used: usize,

@@ -1,5 +1,7 @@
 // One read of a trace, and what comes of it: what a program that replays one does between its reads and its
 // writes.
+#![tactic(auto)]
+
 ghost use Rattle.std.specs.Prelude.{◌≡◌};
 ghost use Rattle.text.specs.Texts.{Wrote};
 ghost use Rattle.replay_feed.specs.Feed.{reading};
@@ -9,7 +11,7 @@ use replay_feed::{CHUNK, Replay};
 
 // The replay afterwards, the place past what is to be written, whether there may be more to read, and whether
 // the read failed.
-#[derive(Drop)]
+#[derive(Clone, Copy)]
 pub struct Moved {
     pub replay: Replay,
     pub past: usize,

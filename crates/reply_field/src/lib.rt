@@ -1,5 +1,7 @@
 // The replies of a trace's line: at most 135 bytes, each as two hex digits in capitals, the high one
 // first. Any call asks that 135 bytes are there, so zeros follow those that the line gives.
+#![tactic(auto)]
+
 ghost use Rattle.std.specs.Prelude.{◌≡◌, true, ◌+◌, ◌*◌, ◌<◌, length, get_or, replicate};
 ghost use Rattle.field.specs.Field.{is_hex, hex_of};
 ghost use Rattle.reply_field.specs.Replies.{pairs_of, all_hex, fits_of, padded_of, filled_of};

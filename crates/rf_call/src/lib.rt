@@ -1,4 +1,6 @@
 // A call on a channel: what it is given, how it ends, the halt; and the three calls that are one event.
+#![tactic(auto)]
+
 ghost use Rattle.std.specs.Prelude.{◌≡◌, List, length, ℕ, ◌+◌, ◌*◌, ◌≤◌, ◌<◌};
 ghost use Rattle.bus.specs.Run.{Does, Room};
 ghost use Rattle.rf_call.specs.Outcome.{cause_of, slot_of, reset_answer};
@@ -9,7 +11,7 @@ use rf_channel::{Events, RfChannel, States};
 use rf_machine::{Cause, Step, Told};
 
 // The temperature in degrees Celsius, or that its chip did not answer.
-#[derive(Drop)]
+#[derive(Clone, Copy)]
 pub enum Temperature {
     Celsius(f32),
     Failed,
@@ -17,7 +19,7 @@ pub enum Temperature {
 
 // What a caller gives to every call: the clock, the levels of the input pins, whether the watchdog has
 // struck, and the temperature.
-#[derive(Drop)]
+#[derive(Clone, Copy)]
 pub struct Givens {
     pub tick: u32,
     pub alert: bool,
@@ -28,7 +30,7 @@ pub struct Givens {
 }
 
 // The state for the front panel: its green, yellow and red light.
-#[derive(Drop)]
+#[derive(Clone, Copy)]
 pub struct PowerStatus {
     pub powered: bool,
     pub rf_disabled: bool,
@@ -36,7 +38,7 @@ pub struct PowerStatus {
 }
 
 // What a status has beside its numbers.
-#[derive(Drop)]
+#[derive(Clone, Copy)]
 pub struct ChannelStatus {
     pub reflected_overdrive: bool,
     pub output_overdrive: bool,
@@ -45,7 +47,7 @@ pub struct ChannelStatus {
 }
 
 // What a call that is done has to tell.
-#[derive(Drop)]
+#[derive(Clone, Copy)]
 pub enum Report {
     Plain,
     Power(PowerStatus),
@@ -53,7 +55,7 @@ pub enum Report {
 }
 
 // What a call on a channel that stays answers.
-#[derive(Drop)]
+#[derive(Clone, Copy)]
 pub enum Answer {
     Done(Report),
     NoTransition,
@@ -63,21 +65,21 @@ pub enum Answer {
 }
 
 // How a call ends: with a channel and an answer, with no module found, or halted.
-#[derive(Drop)]
+#[derive(Clone, Copy)]
 pub enum Outcome {
     Live(RfChannel, Answer),
     Absent,
     Halted(Cause),
 }
 
-#[derive(Drop)]
+#[derive(Clone, Copy)]
 pub struct Ended {
     pub outcome: Outcome,
     pub next: Cursor,
 }
 
 // What stands in a slot.
-#[derive(Drop)]
+#[derive(Clone, Copy)]
 pub enum Slot {
     Empty,
     Halted(Cause),

@@ -1,4 +1,6 @@
 // What may be asked of a channel that stands in a slot, in one place.
+#![tactic(auto)]
+
 ghost use Rattle.std.specs.Prelude.{◌≤◌, ◌≡◌, length};
 ghost use Rattle.bus.specs.Run.{Does, Room};
 ghost use Rattle.rf_calls.specs.Requests.{places, requested, shown_by};
@@ -8,7 +10,7 @@ use rf_call::{Ended, Givens};
 use rf_channel::{ChannelSettings, RfChannel};
 use rf_status::Detectors;
 
-#[derive(Drop)]
+#[derive(Clone, Copy)]
 pub enum Request {
     Startup,
     Update,

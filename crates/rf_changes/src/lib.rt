@@ -1,4 +1,6 @@
 // What has changed in new settings, and the event that they raise.
+#![tactic(auto)]
+
 ghost use Rattle.std.specs.Prelude.{◌≡◌};
 ghost use Rattle.rf_changes.specs.Changes.{state_number, same_state, same_line, same, changes_of, stored, event_of};
 
@@ -6,7 +8,7 @@ use linear_transformation::LinearTransformation;
 use rf_channel::{ChannelSettings, ChannelState, Events, RfChannel, States};
 
 // What has changed: a write is due.
-#[derive(Drop)]
+#[derive(Clone, Copy)]
 pub struct Changes {
     pub output: bool,
     pub reflected: bool,
@@ -14,7 +16,7 @@ pub struct Changes {
 }
 
 // The event that new settings raise.
-#[derive(Drop)]
+#[derive(Clone, Copy)]
 pub enum Follow {
     Nothing,
     Raise(Events),

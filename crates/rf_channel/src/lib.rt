@@ -1,32 +1,34 @@
 // An RF channel: its settings, its state and its two output pins; the clock and the guards.
+#![tactic(auto)]
+
 ghost use Rattle.std.specs.Prelude.{◌≡◌};
 ghost use Rattle.rf_channel.specs.Guards.{late_of, powerup_of, enable_of};
 
 use linear_transformation::LinearTransformation;
 
 // What the settings ask of a channel.
-#[derive(Drop)]
+#[derive(Clone, Copy)]
 pub enum ChannelState {
     Off,
     Powered,
     Enabled,
 }
 
-#[derive(Drop)]
+#[derive(Clone, Copy)]
 pub enum ChannelFault {
     OverTemperature,
     UnderTemperature,
     SupplyAlert,
 }
 
-#[derive(Drop)]
+#[derive(Clone, Copy)]
 pub enum Interlock {
     Input,
     Output,
     Reflected,
 }
 
-#[derive(Drop)]
+#[derive(Clone, Copy)]
 pub struct ChannelSettings {
     pub output_interlock_threshold: f32,
     pub bias_voltage: f32,
@@ -37,7 +39,7 @@ pub struct ChannelSettings {
 }
 
 // A deadline is a tick.
-#[derive(Drop)]
+#[derive(Clone, Copy)]
 pub enum States {
     Blocked(ChannelFault),
     Off,
@@ -48,7 +50,7 @@ pub enum States {
     Powerdown(u32),
 }
 
-#[derive(Drop)]
+#[derive(Clone, Copy)]
 pub enum Events {
     InterlockReset,
     Update,
@@ -58,7 +60,7 @@ pub enum Events {
     Fault(ChannelFault),
 }
 
-#[derive(Drop)]
+#[derive(Clone, Copy)]
 pub struct RfChannel {
     pub settings: ChannelSettings,
     pub state: States,
@@ -67,7 +69,7 @@ pub struct RfChannel {
 }
 
 // What is done to the hardware on the way from one state to the next.
-#[derive(Drop)]
+#[derive(Clone, Copy)]
 pub enum Action {
     Nothing,
     StartPowerup,
@@ -80,7 +82,7 @@ pub enum Action {
 }
 
 // What an event does: it is not listed for the state, its guard is false, or this action and this next state.
-#[derive(Drop)]
+#[derive(Clone, Copy)]
 pub enum Plan {
     NoTransition,
     GuardFalse,

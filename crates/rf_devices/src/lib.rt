@@ -1,4 +1,6 @@
 // The chips of one channel, as its calls use them: the input power, and the two trip levels.
+#![tactic(auto)]
+
 ghost use Rattle.std.specs.Prelude.{◌≡◌};
 ghost use Rattle.bus.specs.Run.{Does, Room};
 ghost use Rattle.interlock.specs.Level.{level_code};
@@ -16,13 +18,13 @@ use rf_channel::ChannelSettings;
 pub const MAXIMUM_REFLECTED_POWER_DBM: f32 = 30.0;
 
 // The input power in dBm, or a bus failure.
-#[derive(Drop)]
+#[derive(Clone, Copy)]
 pub enum Power {
     Dbm(f32),
     Bus,
 }
 
-#[derive(Drop)]
+#[derive(Clone, Copy)]
 pub struct Sensed {
     pub power: Power,
     pub next: Cursor,

@@ -1,4 +1,6 @@
 // What an event does to a channel: the plan of the table, then the hardware, then the channel itself.
+#![tactic(auto)]
+
 ghost use Rattle.std.specs.Prelude.{ℕ, ◌+◌, ◌*◌, ◌≤◌, ◌<◌, ◌≡◌, List, length};
 ghost use Rattle.bus.specs.Run.{Does, Room};
 ghost use Rattle.rf_machine.specs.Hardware.{pin, pinch_off, apply_bias, enabled, start_powerup, reset_interlocks, enable_output, start_disable, hardware};
@@ -9,7 +11,7 @@ use dac7571::{Output, Programmed};
 use rf_channel::{Action, ChannelSettings, Events, Plan, RfChannel, States};
 
 // Why a channel halts. The original panics.
-#[derive(Drop)]
+#[derive(Clone, Copy)]
 pub enum Cause {
     Bus,
     Alarm,
@@ -20,20 +22,20 @@ pub enum Cause {
 }
 
 // Work on the hardware was done, or the channel has to halt.
-#[derive(Drop)]
+#[derive(Clone, Copy)]
 pub enum Effect {
     Did,
     Stop(Cause),
 }
 
-#[derive(Drop)]
+#[derive(Clone, Copy)]
 pub struct Acted {
     pub effect: Effect,
     pub next: Cursor,
 }
 
 // What the table says of an event.
-#[derive(Drop)]
+#[derive(Clone, Copy)]
 pub enum Told {
     Moved,
     NoTransition,
@@ -41,13 +43,13 @@ pub enum Told {
 }
 
 // The channel after an event, or why it has to halt.
-#[derive(Drop)]
+#[derive(Clone, Copy)]
 pub enum Step {
     Went(RfChannel, Told),
     Stopped(Cause),
 }
 
-#[derive(Drop)]
+#[derive(Clone, Copy)]
 pub struct Processed {
     pub step: Step,
     pub next: Cursor,

@@ -1,4 +1,6 @@
 // What a channel is asked without its bus: the original's six methods that read it, by value.
+#![tactic(auto)]
+
 ghost use Rattle.std.specs.Prelude.{◌≡◌};
 ghost use Rattle.rf_methods.specs.Methods.{detected};
 

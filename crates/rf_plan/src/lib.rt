@@ -1,4 +1,6 @@
 // What each event makes of a channel, by the transition table.
+#![tactic(auto)]
+
 ghost use Rattle.std.specs.Prelude.{◌≡◌};
 ghost use Rattle.rf_channel.specs.Guards.{later};
 ghost use Rattle.rf_plan.specs.Table.{table};

@@ -1,4 +1,6 @@
 // New settings for a channel. What has not changed is not written again.
+#![tactic(auto)]
+
 ghost use Rattle.std.specs.Prelude.{ℕ, ◌+◌, ◌*◌, ◌≤◌, ◌<◌, ◌≡◌, List, length};
 ghost use Rattle.bus.specs.Run.{Does, Room};
 ghost use Rattle.rf_settings.specs.Settings.{level_applied, bias_applied, write_output, write_reflected, write_bias, write_changes, apply_settings, following, refusing, handle_settings};
@@ -10,7 +12,7 @@ use rf_channel::{ChannelSettings, ChannelState, RfChannel};
 use rf_machine::Cause;
 
 // What went wrong: a value out of range, the interlock chip, or the bias chip.
-#[derive(Drop)]
+#[derive(Clone, Copy)]
 pub enum Wrong {
     Range,
     Chip,
@@ -18,26 +20,26 @@ pub enum Wrong {
 }
 
 // A write was done, or what went wrong.
-#[derive(Drop)]
+#[derive(Clone, Copy)]
 pub enum Written {
     Fine,
     Failed(Wrong),
 }
 
-#[derive(Drop)]
+#[derive(Clone, Copy)]
 pub struct Wrote {
     pub written: Written,
     pub next: Cursor,
 }
 
 // The channel with its settings in force, or with settings that are stored and were not all written.
-#[derive(Drop)]
+#[derive(Clone, Copy)]
 pub enum Applied {
     Ok(RfChannel),
     Err(RfChannel, Wrong),
 }
 
-#[derive(Drop)]
+#[derive(Clone, Copy)]
 pub struct Stored {
     pub applied: Applied,
     pub next: Cursor,

@@ -1,4 +1,6 @@
 // The start of a channel: the pins, the chips of the mainboard, those of the module, and the trip levels.
+#![tactic(auto)]
+
 ghost use Rattle.std.specs.Prelude.{◌≡◌};
 ghost use Rattle.bus.specs.Run.{Does, Room};
 ghost use Rattle.rf_start.specs.Start.{beginning, quiet, monitor, preparing, module_there, level_set, levels, fresh, settling, starting};
@@ -10,13 +12,13 @@ use rf_channel::{ChannelSettings, RfChannel, States};
 use rf_machine::{Acted, Cause, Effect};
 
 // A module is there, or it is not.
-#[derive(Drop)]
+#[derive(Clone, Copy)]
 pub enum Presence {
     Present,
     Absent,
 }
 
-#[derive(Drop)]
+#[derive(Clone, Copy)]
 pub struct Found {
     pub presence: Presence,
     pub next: Cursor,

@@ -1,4 +1,6 @@
 // The status of a channel: seven numbers for the caller's slice, and flags beside them.
+#![tactic(auto)]
+
 ghost use Rattle.std.specs.Prelude.{◌≤◌, ◌≡◌, length};
 ghost use Rattle.bus.specs.Run.{Does, Room};
 ghost use Rattle.rf_status.specs.Numbers.{p28v_current_of, p5v_current_of, p5v_voltage_of, filled, shown_of};
@@ -12,14 +14,14 @@ use rf_devices::Power;
 use rf_machine::Cause;
 
 // The millivolts of the two power detectors, as the processor's own converter reads them.
-#[derive(Drop)]
+#[derive(Clone, Copy)]
 pub struct Detectors {
     pub output: u16,
     pub reflected: u16,
 }
 
 // The seven numbers, in the order in which the caller gets them.
-#[derive(Drop)]
+#[derive(Clone, Copy)]
 pub struct Numbers {
     pub temperature: f32,
     pub p28v_current: f32,
@@ -31,13 +33,13 @@ pub struct Numbers {
 }
 
 // All that a status measures, or why the channel has to halt.
-#[derive(Drop)]
+#[derive(Clone, Copy)]
 pub enum Measures {
     All(Numbers),
     Stopped(Cause),
 }
 
-#[derive(Drop)]
+#[derive(Clone, Copy)]
 pub struct Taken {
     pub measures: Measures,
     pub next: Cursor,

@@ -1,4 +1,6 @@
 // The tests of an update, the fault test and the trip test, and the lights of the front panel.
+#![tactic(auto)]
+
 ghost use Rattle.std.specs.Prelude.{◌≡◌};
 ghost use Rattle.rf_tests.specs.Tests.{check_faults, overdrive_source, is_enabled, is_blocked, power_status};
 
@@ -6,7 +8,7 @@ use rf_call::{Givens, PowerStatus, Temperature};
 use rf_channel::{ChannelFault, Interlock, RfChannel, States};
 
 // What the fault test finds.
-#[derive(Drop)]
+#[derive(Clone, Copy)]
 pub enum Check {
     Fine,
     Found(ChannelFault),
@@ -14,7 +16,7 @@ pub enum Check {
 }
 
 // What the trip test finds.
-#[derive(Drop)]
+#[derive(Clone, Copy)]
 pub enum Overdrive {
     Quiet,
     Source(Interlock),

@@ -1,1 +1,2 @@
 // Theorems of a channel. There is no code here.
+#![tactic(auto)]

@@ -1,4 +1,6 @@
 // The periodic update of a channel: faults, trips, and then what the clock and the settings allow.
+#![tactic(auto)]
+
 ghost use Rattle.std.specs.Prelude.{◌≡◌};
 ghost use Rattle.bus.specs.Run.{Does, Room};
 ghost use Rattle.rf_update.specs.Update.{stage_of, raising, fault_stage, trip_stage, finishing, updating};
@@ -11,13 +13,13 @@ use rf_machine::{Cause, Step};
 use rf_tests::{Check, Overdrive};
 
 // A part of the update leaves the channel, or the channel has to halt.
-#[derive(Drop)]
+#[derive(Clone, Copy)]
 pub enum Stage {
     Going(RfChannel),
     Stopped(Cause),
 }
 
-#[derive(Drop)]
+#[derive(Clone, Copy)]
 pub struct Staged {
     pub stage: Stage,
     pub next: Cursor,

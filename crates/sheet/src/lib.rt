@@ -1,4 +1,6 @@
 // The lines that the replay writes, put into a buffer that the caller lends.
+#![tactic(auto)]
+
 ghost use Rattle.std.specs.Prelude.{◌≡◌, ◌++◌, ◌+◌, ◌≤◌, length};
 ghost use Rattle.text.specs.Texts.{Wrote, bytes_of, decimal_text};
 ghost use Rattle.sheet.specs.Lines.{power_of, rf_of, level_text, standing_text, header_text, answer_text, bad_text};

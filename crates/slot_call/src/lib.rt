@@ -1,5 +1,7 @@
 // Any call on what stands in a slot, by value: nothing is asked of the caller. What a rack does to one of its
 // slots, and what is done to a bay that is lent, is this step.
+#![tactic(auto)]
+
 ghost use Rattle.std.specs.Prelude.{◌≤◌, ◌≡◌, length};
 ghost use Rattle.bus.specs.Run.{Does, Room};
 ghost use Rattle.rf_call.specs.Outcome.{slot_of};
@@ -13,14 +15,14 @@ use rf_call::{Ended, Slot};
 use slots::{Bay, Verdict};
 
 // The number of the slot, and the rows used.
-#[derive(Drop)]
+#[derive(Clone, Copy)]
 pub struct Place {
     pub slot: u8,
     pub used: usize,
 }
 
 // What then stands in the slot, the answer, and the rows used.
-#[derive(Drop)]
+#[derive(Clone, Copy)]
 pub struct Stepped {
     pub standing: Slot,
     pub verdict: Verdict,

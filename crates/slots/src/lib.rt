@@ -1,4 +1,6 @@
 // The eight slots of the bay, and what a call on one of them answers.
+#![tactic(auto)]
+
 ghost use Rattle.std.specs.Prelude.{◌≡◌};
 ghost use Rattle.slots.specs.Slots.{empty_rack, slot_at, put_at, verdict_of, number_of, cause_beside};
 
@@ -7,18 +9,18 @@ use rf_call::{Answer, Outcome, Slot};
 use rf_machine::Cause;
 
 // A slot of the bay. An array of a struct's own may hold structs, and not enums.
-#[derive(Drop)]
+#[derive(Clone, Copy)]
 pub struct Bay {
     pub slot: Slot,
 }
 
-#[derive(Drop)]
+#[derive(Clone, Copy)]
 pub struct Rack {
     pub bays: [Bay; 8],
 }
 
 // What a call answers: refused, from a channel that stays, no module found, or halted.
-#[derive(Drop)]
+#[derive(Clone, Copy)]
 pub enum Verdict {
     Refused(Refusal),
     Answered(Answer),
@@ -27,7 +29,7 @@ pub enum Verdict {
 }
 
 // What a call gives back: the rack, the answer, and how many rows are used.
-#[derive(Drop)]
+#[derive(Clone, Copy)]
 pub struct Turn {
     pub rack: Rack,
     pub verdict: Verdict,

@@ -1,4 +1,6 @@
 // The names of the states, put into a buffer that the caller lends.
+#![tactic(auto)]
+
 ghost use Rattle.std.specs.Prelude.{◌+◌, ◌≤◌, length};
 ghost use Rattle.text.specs.Texts.{Wrote, bytes_of};
 ghost use Rattle.state_name.specs.Names.{state_name, state_text};

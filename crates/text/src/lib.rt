@@ -1,4 +1,6 @@
 // Writing bytes and numbers into a buffer that the caller lends, one text behind the other.
+#![tactic(auto)]
+
 ghost use Rattle.std.specs.Prelude.{◌+◌, ◌≤◌, length};
 ghost use Rattle.text.specs.Texts.{decimal_text, Wrote};
 

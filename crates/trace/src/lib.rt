@@ -1,5 +1,7 @@
 // A line of a trace, without its end: nine columns, of which the first seven and the last make a call. The
 // replies, in the eighth, are for the crate `reply_field`: an answer can hold no array.
+#![tactic(auto)]
+
 ghost use Rattle.std.specs.Prelude.{◌≡◌};
 ghost use Rattle.columns.specs.Columns.{column_of};
 ghost use Rattle.names.specs.Names.{flag_of};
@@ -15,21 +17,21 @@ use rf_channel::ChannelSettings;
 use rf_status::Detectors;
 
 // What is given to a call, or a field that does not fit.
-#[derive(Drop)]
+#[derive(Clone, Copy)]
 pub enum Given {
     Is(Givens),
     Not,
 }
 
 // A request without settings, or none.
-#[derive(Drop)]
+#[derive(Clone, Copy)]
 pub enum Plain {
     Is(Request),
     Not,
 }
 
 // A call, or a line that does not fit.
-#[derive(Drop)]
+#[derive(Clone, Copy)]
 pub enum Parsed {
     Call(Call),
     Bad,

@@ -1,1 +1,2 @@
 // Theorems of what the interlock chip is sent. There is no code here.
+#![tactic(auto)]

@@ -1,0 +1,15 @@
+-- `levels::print_levels` ends: its loop counts to 55. Assumes nothing.
+use native.Mathlib.Omega.{arith}
+use Rattle.levels.proofs.print_levels.Goals as goal
+
+pub loop-k-init : goal.loop-k-init
+loop-k-init c = omega arith
+
+pub overflow_step-k : goal.overflow_step-k
+overflow_step-k c = omega arith
+
+pub loop-k-smaller : goal.loop-k-smaller
+loop-k-smaller c = omega arith
+
+pub loop-k-preserved : goal.loop-k-preserved
+loop-k-preserved c = omega arith

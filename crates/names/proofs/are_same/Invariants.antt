@@ -1,0 +1,12 @@
+-- `names::are_same` meets its contract. The loop's invariant: what is left of the two is the same where the two are. The measure is what is left of the first. Assumes nothing.
+use mathlib.Core.Path.{◌≡◌}
+use Prim.Native.Nat.{◌≤◌, ◌-◌}
+use lib.ListN.{length, drop}
+use Rattle.names.specs.Names.{same}
+use Rattle.names.proofs.are_same.Given as goal
+
+abbrev pub invariant-loop-i : goal.invariant-loop-i
+invariant-loop-i l = (l.i ≤ length l.a) × (same (drop l.i l.a) (drop l.i l.b) ≡ same l.a l.b)
+
+abbrev pub decreases-loop-i : goal.decreases-loop-i
+decreases-loop-i l = length l.a - l.i

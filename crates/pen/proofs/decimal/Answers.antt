@@ -1,0 +1,8 @@
+-- `pen::decimal` meets its contract: the digits that it is handed are those of the number's text. Assumes nothing.
+use Rattle.text.proofs.Decimals.{decimal_is}
+use Rattle.pen.proofs.decimal.Goals as goal
+
+pub returns : goal.returns
+returns c = let n = c.args.n in
+    let told = c.decimal-k in
+    rw (told.ensures.1.1, decimal_is n told.result told.ensures.1.0) at c.bytes.ensures

@@ -1,0 +1,35 @@
+-- `sheet::put_standing` meets its contract: four texts, one behind another, each in the room that the one before leaves. Assumes nothing.
+use Prim.Native.Nat.{◌+◌, ◌≤◌}
+use lib.ListN.{length}
+use native.Mathlib.Omega.{arith}
+use lib.Dec.{lit≤}
+use Rattle.text.proofs.Writing.{wrote_then, room_past}
+use Rattle.state_name.proofs.Lengths.{state_length}
+use Rattle.sheet.proofs.Lengths.{level_column}
+use Rattle.sheet.proofs.Parts.{standing_parts}
+use Rattle.sheet.proofs.put_standing.Goals as goal
+
+past_state : (c : tie.After-put-slot) → c.put-slot.result + 5 ≤ length c.put-slot.new.0
+past_state c = room_past 25 5 c.put-slot.ensures (state_length _) c.before.before.before.before.before.requires
+
+past_comma : (c : tie.After-put-bytes) → c.put-bytes.result + 4 ≤ length c.put-bytes.new.0
+past_comma c = room_past 1 4 c.put-bytes.ensures (lit≤ tt) (past_state c.before.before.before.before.before)
+
+-- ---- the calls
+
+pub put_bytes-past_comma-requires : goal.put_bytes-past_comma-requires
+put_bytes-past_comma-requires c = omega (arith, past_state c)
+
+pub put_level-past_power-requires : goal.put_level-past_power-requires
+put_level-past_power-requires c = omega (arith, past_comma c)
+
+pub put_level-requires : goal.put_level-requires
+put_level-requires c = room_past 2 2 c.put_level-past_power.ensures (level_column _) (past_comma c)
+
+pub returns : goal.returns
+returns c = let state = c.put_slot-past_state.ensures in
+    let comma = c.put_bytes-past_comma.ensures in
+    let power = c.put_level-past_power.ensures in
+    let rf = c.put_level.ensures in
+    rw (c.power_of-power.ensures, c.rf_of-rf.ensures, standing_parts c.args.slot) at
+    (wrote_then (wrote_then (wrote_then state comma) power) rf)
