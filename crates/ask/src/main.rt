@@ -9,7 +9,11 @@ mod question;
 mod result;
 mod words;
 
-use libc::{STDERR_FILENO, STDIN_FILENO, STDOUT_FILENO};
+use std::io::{Read, Stdin};
+
+// The numbers of the standard output and of the standard error.
+const STDOUT: i32 = 1;
+const STDERR: i32 = 2;
 
 const LF: u8 = 10;
 
@@ -25,9 +29,9 @@ fn pass(s: &[u8]) -> bool {
     let mut out = [0u8; 2048];
     let past = answer::pass(s, &mut out);
     let text = line_hold::front(&out, past);
-    let sent = io::write_all(STDOUT_FILENO, text);
+    let sent = io::write_all(STDOUT, text);
     if !sent {
-        io::write_all(STDERR_FILENO, b"The answers cannot be written.\n");
+        io::write_all(STDERR, b"The answers cannot be written.\n");
     }
     sent
 }
@@ -44,7 +48,7 @@ fn feed(held: usize, hold: &mut [u8; 514], chunk: &[u8]) -> Reading {
     let mut held = held;
     let mut start = 0;
     while start < chunk.len() {
-        let end = bytes::scan::find(chunk, start, chunk.len(), LF);
+        let end = scan::find(chunk, start, chunk.len(), LF);
         held = line_hold::keep_part(hold, held, &chunk[start..end]);
         if end == chunk.len() {
             return Reading { held, more: true };
@@ -72,14 +76,22 @@ fn finish(held: usize, hold: &[u8; 514]) -> Reading {
     }
 }
 
+// What a read gives, as a number: how many bytes came, or -1 where it failed.
+fn got(input: &mut Stdin, chunk: &mut [u8]) -> isize {
+    match input.read(chunk) {
+        Ok(n) => n as isize,
+        Err(_) => -1,
+    }
+}
+
 // Reads a chunk and answers its lines.
-fn turn(held: usize, hold: &mut [u8; 514], chunk: &mut [u8]) -> Reading {
-    let got = libc::read(STDIN_FILENO, chunk);
-    if got < 0 {
-        io::write_all(STDERR_FILENO, b"The questions cannot be read.\n");
+fn turn(input: &mut Stdin, held: usize, hold: &mut [u8; 514], chunk: &mut [u8]) -> Reading {
+    let came = got(input, chunk);
+    if came < 0 {
+        io::write_all(STDERR, b"The questions cannot be read.\n");
         return Reading { held, more: false };
     }
-    let n = io::count(got, chunk);
+    let n = io::count(came, chunk);
     if n == 0 {
         return finish(held, hold);
     }
@@ -89,12 +101,12 @@ fn turn(held: usize, hold: &mut [u8; 514], chunk: &mut [u8]) -> Reading {
 
 // A proved loop has to end, and nothing says that the input does: so the turns are counted down, from a number that
 // no run uses up.
-fn turns(hold: &mut [u8; 514], chunk: &mut [u8]) {
+fn turns(input: &mut Stdin, hold: &mut [u8; 514], chunk: &mut [u8]) {
     let mut held = 0;
     let mut left = u64::MAX;
     while 0 < left {
         left -= 1;
-        let reading = turn(held, hold, chunk);
+        let reading = turn(input, held, hold, chunk);
         held = reading.held;
         if !reading.more {
             return;
@@ -102,8 +114,9 @@ fn turns(hold: &mut [u8; 514], chunk: &mut [u8]) {
     }
 }
 
-fn main() {
+fn main(rt: HostRuntime) {
+    let mut input = rt.stdin();
     let mut hold = [0u8; 514];
     let mut chunk = [0u8; 65536];
-    turns(&mut hold, &mut chunk);
+    turns(&mut input, &mut hold, &mut chunk);
 }

@@ -7,7 +7,7 @@ pub fn count(s: &[u8]) -> usize {
     let mut n = 1;
     let mut start = 0;
     while start < s.len() {
-        let end = bytes::scan::find(s, start, s.len(), SPACE);
+        let end = scan::find(s, start, s.len(), SPACE);
         if end == s.len() {
             return n;
         }
@@ -23,13 +23,13 @@ pub fn word(s: &[u8], k: usize) -> &[u8] {
     let mut left = k;
     while 0 < left {
         left -= 1;
-        let end = bytes::scan::find(s, start, s.len(), SPACE);
+        let end = scan::find(s, start, s.len(), SPACE);
         if end == s.len() {
             return &s[end..];
         }
         start = end + 1;
     }
-    let end = bytes::scan::find(s, start, s.len(), SPACE);
+    let end = scan::find(s, start, s.len(), SPACE);
     &s[start..end]
 }
 

@@ -141,7 +141,7 @@ fn run(script: &[u8]) {
 pub fn each(scripts: &[u8]) {
     let mut i = 0;
     while i < scripts.len() {
-        let end = bytes::scan::find(scripts, i, scripts.len(), b'\n');
+        let end = scan::find(scripts, i, scripts.len(), b'\n');
         if scripts.len() <= end {
             return;
         }

@@ -9,7 +9,7 @@ use lib.Dec.{eqb}
 use lib.ListN.{length, get_or, take, drop, drop_of_length-le}
 use lib.Seq.{drop-cons}
 use borrow.Author.Tests.{eq-eqb, ne_eqb}
-use Rattle.bytes.specs.Bytes.{index_of, index_after}
+use Rattle.scan.specs.Scan.{index_of, index_after}
 use Rattle.columns.specs.Columns.{comma, onto, split, count_of, column_of}
 
 -- ---- a byte more at the front of the first column

@@ -45,7 +45,7 @@ pub fn column(s: &[u8], k: usize) -> Span
         }
         start += 1;
     }
-    let end = bytes::scan::find(s, start, s.len(), COMMA);
+    let end = scan::find(s, start, s.len(), COMMA);
     Span { start, end }
 }
 

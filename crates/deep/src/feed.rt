@@ -1,7 +1,10 @@
 // The lines of `deep`, chunk by chunk: what is known of the line that a chunk ends in goes on to the next, its bytes in
 // a buffer that the caller lends. What a line gives is written to standard output at once.
 use crate::answer::Place;
-use libc::{STDERR_FILENO, STDOUT_FILENO};
+
+// The numbers of the standard output and of the standard error.
+const STDOUT: i32 = 1;
+const STDERR: i32 = 2;
 
 const LF: u8 = 10;
 
@@ -37,9 +40,9 @@ pub fn ended(reading: Reading) -> Reading {
 // Writes the first `past` bytes of the buffer.
 fn send(out: &[u8; 2048], past: usize) -> bool {
     let text = line_hold::front(out, past);
-    let sent = io::write_all(STDOUT_FILENO, text);
+    let sent = io::write_all(STDOUT, text);
     if !sent {
-        io::write_all(STDERR_FILENO, b"The answers cannot be written.\n");
+        io::write_all(STDERR, b"The answers cannot be written.\n");
     }
     sent
 }
@@ -80,7 +83,7 @@ fn feed(reading: Reading, log: &mut [u8], hold: &mut [u8; 514], chunk: &[u8]) ->
     let mut reading = reading;
     let mut start = 0;
     while start < chunk.len() {
-        let end = bytes::scan::find(chunk, start, chunk.len(), LF);
+        let end = scan::find(chunk, start, chunk.len(), LF);
         reading = keep(reading, hold, &chunk[start..end]);
         if end == chunk.len() {
             return reading;

@@ -8,37 +8,49 @@ mod feed;
 mod line;
 
 use crate::feed::Reading;
-use libc::{STDERR_FILENO, STDIN_FILENO};
+use std::io::{Read, Stdin};
+
+// The number of the standard error.
+const STDERR: i32 = 2;
+
+// What a read gives, as a number: how many bytes came, or -1 where it failed.
+fn got(input: &mut Stdin, chunk: &mut [u8]) -> isize {
+    match input.read(chunk) {
+        Ok(n) => n as isize,
+        Err(_) => -1,
+    }
+}
 
 // Reads a chunk and does its lines.
-fn turn(reading: Reading, log: &mut [u8], hold: &mut [u8; 514], chunk: &mut [u8]) -> Reading {
-    let got = libc::read(STDIN_FILENO, chunk);
-    if got < 0 {
-        io::write_all(STDERR_FILENO, b"The lines cannot be read.\n");
+fn turn(input: &mut Stdin, reading: Reading, log: &mut [u8], hold: &mut [u8; 514], chunk: &mut [u8]) -> Reading {
+    let came = got(input, chunk);
+    if came < 0 {
+        io::write_all(STDERR, b"The lines cannot be read.\n");
         return feed::ended(reading);
     }
-    let n = io::count(got, chunk);
+    let n = io::count(came, chunk);
     let part = line_hold::front(chunk, n);
     feed::take(reading, log, hold, part)
 }
 
 // A proved loop has to end, and nothing says that the input does: so the turns are counted down, from a number that
 // no run uses up.
-fn turns(log: &mut [u8], hold: &mut [u8; 514], chunk: &mut [u8]) {
+fn turns(input: &mut Stdin, log: &mut [u8], hold: &mut [u8; 514], chunk: &mut [u8]) {
     let mut reading = feed::begin();
     let mut left = u64::MAX;
     while 0 < left {
         left -= 1;
-        reading = turn(reading, log, hold, chunk);
+        reading = turn(input, reading, log, hold, chunk);
         if !reading.more {
             return;
         }
     }
 }
 
-fn main() {
+fn main(rt: HostRuntime) {
+    let mut input = rt.stdin();
     let mut log = [0u8; 65536];
     let mut hold = [0u8; 514];
     let mut chunk = [0u8; 65536];
-    turns(&mut log, &mut hold, &mut chunk);
+    turns(&mut input, &mut log, &mut hold, &mut chunk);
 }

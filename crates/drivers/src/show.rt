@@ -1,16 +1,18 @@
 // Printing. Hex digits are small.
-use libc::STDOUT_FILENO;
+
+// The number of the standard output.
+const STDOUT: i32 = 1;
 
 // What each byte of a log is before the calls.
 pub const FRESH: u8 = 0xEE;
 
 pub fn text(s: &[u8]) {
-    io::write_all(STDOUT_FILENO, s);
+    io::write_all(STDOUT, s);
 }
 
 pub fn pattern_of(bits: u32) {
     text(b" ");
-    io::print_hex(STDOUT_FILENO, bits as u64, 8);
+    io::print_hex(STDOUT, bits as u64, 8);
 }
 
 // A float as its pattern, after a space.
@@ -20,7 +22,7 @@ pub fn float(x: f32) {
 
 pub fn number(n: u64) {
     text(b" ");
-    io::print_decimal(STDOUT_FILENO, n);
+    io::print_decimal(STDOUT, n);
 }
 
 // A byte of a row, by its place there.
@@ -28,7 +30,7 @@ fn byte(place: usize, b: u8) {
     if place == 0 {
         text(b"  ");
     }
-    io::print_hex(STDOUT_FILENO, b as u64, 2);
+    io::print_hex(STDOUT, b as u64, 2);
     if place == 15 {
         text(b"\n");
     }
@@ -60,13 +62,13 @@ fn rows(log: &[u8], from: usize, used: usize) {
 // The answer's number, before what it carries.
 pub fn answer(number: u8) {
     text(b": answer ");
-    io::print_decimal(STDOUT_FILENO, number as u64);
+    io::print_decimal(STDOUT, number as u64);
 }
 
 // The end of an answer: the count, and the rows that were added.
 pub fn end(log: &[u8], from: usize, used: usize) {
     text(b", used ");
-    io::print_decimal(STDOUT_FILENO, used as u64);
+    io::print_decimal(STDOUT, used as u64);
     text(b"\n");
     rows(log, from, used);
 }

@@ -3,27 +3,29 @@
 #![tactic(auto)]
 
 use conversions::Conversion;
-use libc::STDOUT_FILENO;
 use linear_transformation::LinearTransformation;
+
+// The number of the standard output.
+const STDOUT: i32 = 1;
 
 // The end of a line: the code, or that there is none.
 fn print_answer(answer: Conversion) {
     let Conversion::Code(code) = answer else {
-        io::write_all(STDOUT_FILENO, b",refused\n");
+        io::write_all(STDOUT, b",refused\n");
         return;
     };
-    io::write_all(STDOUT_FILENO, b",");
-    io::print_decimal(STDOUT_FILENO, code as u64);
-    io::write_all(STDOUT_FILENO, b"\n");
+    io::write_all(STDOUT, b",");
+    io::print_decimal(STDOUT, code as u64);
+    io::write_all(STDOUT, b"\n");
 }
 
 // One level: k dBm above -12.
 fn print_level(transform: LinearTransformation, k: u16) {
     if k < 12 {
-        io::write_all(STDOUT_FILENO, b"-");
-        io::print_decimal(STDOUT_FILENO, (12 - k) as u64);
+        io::write_all(STDOUT, b"-");
+        io::print_decimal(STDOUT, (12 - k) as u64);
     } else {
-        io::print_decimal(STDOUT_FILENO, (k - 12) as u64);
+        io::print_decimal(STDOUT, (k - 12) as u64);
     }
     let threshold = k as f32 - 12.0;
     print_answer(interlock::level_code(transform, threshold));
@@ -37,18 +39,18 @@ fn print_levels(transform: LinearTransformation) {
 
 fn main() {
     let nan = 0.0 / 0.0;
-    io::write_all(STDOUT_FILENO, b"bench,code\nad5627 1.25");
+    io::write_all(STDOUT, b"bench,code\nad5627 1.25");
     print_answer(conversions::ad5627_code(1.25));
-    io::write_all(STDOUT_FILENO, b"ad5627 2.5");
+    io::write_all(STDOUT, b"ad5627 2.5");
     print_answer(conversions::ad5627_code(2.5));
-    io::write_all(STDOUT_FILENO, b"ad5627 NaN");
+    io::write_all(STDOUT, b"ad5627 NaN");
     print_answer(conversions::ad5627_code(nan));
-    io::write_all(STDOUT_FILENO, b"dac7571 3.2");
+    io::write_all(STDOUT, b"dac7571 3.2");
     print_answer(conversions::dac7571_code(3.2));
-    io::write_all(STDOUT_FILENO, b"dac7571 3.3");
+    io::write_all(STDOUT, b"dac7571 3.3");
     print_answer(conversions::dac7571_code(3.3));
-    io::write_all(STDOUT_FILENO, b"dac7571 NaN");
+    io::write_all(STDOUT, b"dac7571 NaN");
     print_answer(conversions::dac7571_code(nan));
-    io::write_all(STDOUT_FILENO, b"dBm,code\n");
+    io::write_all(STDOUT, b"dBm,code\n");
     print_levels(LinearTransformation::new(20.0, -10.0));
 }

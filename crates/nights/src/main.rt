@@ -3,31 +3,33 @@
 
 mod turns;
 
-use libc::STDOUT_FILENO;
+use std::env;
+use std::fs::File;
+use std::io::Result;
+use std::rt::Files;
 
-fn replay(path: &[u8]) {
-    io::write_all(STDOUT_FILENO, path);
-    io::write_all(STDOUT_FILENO, b"\r\n");
-    let trace = os::open_read(path);
-    if trace < 0 {
-        os::fail(path);
-        return;
+// The number of the standard output.
+const STDOUT: i32 = 1;
+
+// A trace that cannot be opened is told of by its name.
+fn replay<R: Files<File = File> + Eprint>(rt: &R, path: &str) {
+    let name = path.as_bytes();
+    io::write_all(STDOUT, name);
+    io::write_all(STDOUT, b"\r\n");
+    match File::open(rt, path) {
+        Ok(trace) => {
+            let mut trace = trace;
+            turns::run(&mut trace);
+        }
+        Err(error) => {
+            let _told = eprintln!(rt; "{path}: {error}");
+        }
     }
-    turns::run(trace);
-    libc::close(trace);
 }
 
-fn replay_word(i: usize) {
-    let mut path = io::buffer();
-    let n = os::arg(i, &mut path);
-    replay(&path[..n]);
-}
-
-fn main() {
-    let count = os::arg_count();
-    let mut i = 1;
-    while i < count {
-        replay_word(i);
-        i += 1;
+fn main(rt: HostRuntime) -> Result<()> {
+    for path in env::args(&rt)?.skip(1) {
+        replay(&rt, path.as_str());
     }
+    Ok(())
 }

@@ -2,22 +2,35 @@
 // read is proved; that one read follows another, and that what comes of each is written, is for the reader's eye.
 #![tactic(auto)]
 
-use libc::{STDERR_FILENO, STDIN_FILENO, STDOUT_FILENO};
 use replay_feed::{CHUNK, Replay};
+use std::io::{Read, Stdin};
+
+// The numbers of the standard output and of the standard error.
+const STDOUT: i32 = 1;
+const STDERR: i32 = 2;
 
 // Writes the first `past` bytes of the buffer.
 fn send(out: &[u8], past: usize) -> bool {
     let text = line_hold::front(out, past);
-    let sent = io::write_all(STDOUT_FILENO, text);
+    let sent = io::write_all(STDOUT, text);
     if !sent {
-        io::write_all(STDERR_FILENO, b"The answers cannot be written.\n");
+        io::write_all(STDERR, b"The answers cannot be written.\n");
     }
     sent
+}
+
+// What a read gives, as a number: how many bytes came, or -1 where it failed.
+fn got(input: &mut Stdin, chunk: &mut [u8]) -> isize {
+    match input.read(chunk) {
+        Ok(n) => n as isize,
+        Err(_) => -1,
+    }
 }
 
 // A proved loop has to end, and nothing says that a trace does: so the reads are counted down, from a number
 // that no run uses up.
 fn turns(
+    input: &mut Stdin,
     replay: Replay,
     log: &mut [u8],
     hold: &mut [u8; 514],
@@ -28,10 +41,10 @@ fn turns(
     let mut left = u64::MAX;
     while 0 < left {
         left -= 1;
-        let got = libc::read(STDIN_FILENO, chunk);
-        let moved = replay_turn::turn(replay, log, hold, chunk, got, out);
+        let came = got(input, chunk);
+        let moved = replay_turn::turn(replay, log, hold, chunk, came, out);
         if moved.failed {
-            io::write_all(STDERR_FILENO, b"The trace cannot be read.\n");
+            io::write_all(STDERR, b"The trace cannot be read.\n");
         }
         let sent = send(out, moved.past);
         if !sent {
@@ -44,7 +57,8 @@ fn turns(
     }
 }
 
-fn main() {
+fn main(rt: HostRuntime) {
+    let mut input = rt.stdin();
     let mut log = [0u8; 65536];
     let mut hold = [0u8; 514];
     let mut chunk = [0u8; CHUNK];
@@ -52,6 +66,6 @@ fn main() {
     let fed = replay_feed::begin(&mut out);
     let replay = fed.replay;
     if send(&out, fed.past) {
-        turns(replay, &mut log, &mut hold, &mut chunk, &mut out);
+        turns(&mut input, replay, &mut log, &mut hold, &mut chunk, &mut out);
     }
 }

@@ -6,7 +6,7 @@ use mathlib.Core.List.{List}
 use native.Mathlib.Omega.{arith}
 use lib.ListN.{length, drop}
 use lib.Seq.{take-length}
-use Rattle.bytes.specs.Bytes.{index_of, slice}
+use Rattle.scan.specs.Scan.{index_of, slice}
 use Rattle.columns.specs.Columns.{comma, column_of}
 use Rattle.columns.proofs.Laws.{column_comma, column_other, column_end, first_front}
 use Rattle.columns.proofs.column.Statement.{statement}

@@ -13,5 +13,5 @@ returns-then-voltage-2 c = rw (c.if-voltage.false, c.if-voltage-2.true)
 
 pub returns : goal.returns
 returns c = let v = c.args.voltage in
-    let small = dac_small v (subst T (sym c.well-formed.0.1) tt) c.if-voltage.false c.if-voltage-2.false in
+    let small = dac_small v (subst T (sym c.well_formed.0.1) tt) c.if-voltage.false c.if-voltage-2.false in
     rw (c.if-voltage.false, c.if-voltage-2.false) (ap Code (mask_nothing c.code_of-code.result (rw c.code_of-code.ensures small) ∙ c.code_of-code.ensures))

@@ -19,7 +19,7 @@ loop-left-smaller c = omega arith
 pub loop-left-preserved : goal.loop-left-preserved
 loop-left-preserved c = let l = c.loop-left in
     let one_more : 1 + (l.left - 1) ≡ l.left = omega arith in
-    rw (shr-shr l.auto 1 (l.left - 1), one_more) l.invariant
+    rw (shr-shr l.kept 1 (l.left - 1), one_more) l.invariant
 
 pub returns : goal.returns
 returns c = let l = c.loop-left in

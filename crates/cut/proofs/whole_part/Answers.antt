@@ -14,7 +14,7 @@ pub returns-then-exponent-lt143 : goal.returns-then-exponent-lt143
 returns-then-exponent-lt143 c = c.drop_bits.ensures ∙ sym (is_dropped c.args.bits c.requires (omega arith) (omega arith))
 
 pub overflow_cast-result : goal.overflow_cast-result
-overflow_cast-result c = omega (arith, returns-2 c, to_unsigned-lt 16 (of_bits binary32 c.args.bits))
+overflow_cast-result c = omega (arith, c.drop_bits.ensures ∙ sym (is_dropped c.args.bits c.requires (omega arith) (omega arith)), to_unsigned-lt 16 (of_bits binary32 c.args.bits))
 
 pub returns-else-exponent-lt143 : goal.returns-else-exponent-lt143
 returns-else-exponent-lt143 c = sym (is_most c.args.bits c.requires (omega arith))

@@ -7,9 +7,9 @@ use Rattle.text.proofs.put_decimal.Goals as goal
 pub put_bytes-requires : goal.put_bytes-requires
 put_bytes-requires c = let n = c.args.n in
     let told = c.decimal-k in
-    rw (told.ensures.1.1, decimal_is n told.result told.ensures.1.0) (omega (arith, decimal_length n (search rules)))
+    rw (told.ensures.digits, decimal_is n told.result told.ensures.len) (omega (arith, decimal_length n (search rules)))
 
 pub returns : goal.returns
 returns c = let n = c.args.n in
     let told = c.decimal-k in
-    rw (told.ensures.1.1, decimal_is n told.result told.ensures.1.0) at c.put_bytes.ensures
+    rw (told.ensures.digits, decimal_is n told.result told.ensures.len) at c.put_bytes.ensures

@@ -1,0 +1,2 @@
+-- Where a byte stands first.
+pub mod Scan
