@@ -9,7 +9,7 @@ use Rattle.rf_plan.proofs.plan_off.Goals as goal
 
 pub returns-then-guard_powerup : goal.returns-then-guard_powerup
 unfolding planned table
-returns-then-guard_powerup c = rw (c.requires, c.in-InterlockReset.is, ← c.guard_powerup.ensures, c.if-guard_powerup.true) (c.go.ensures ∙ ap (λ d. Go StartPowerup (Powerup d)) c.wrapping_add_u32-deadline.ensures)
+returns-then-guard_powerup c = rw (c.requires, c.in-InterlockReset.is, ← c.guard_powerup.ensures, c.if-guard_powerup.true) (c.go.ensures ∙ ap (λ d. Go StartPowerup (Powerup d)) c.wrapping_add_u32-deadline.ensures.value)
 
 pub returns-else-guard_powerup : goal.returns-else-guard_powerup
 unfolding planned table
@@ -33,4 +33,4 @@ returns-in-Trip c = rw (c.requires, c.in-Trip.is)
 
 pub returns-in-Fault : goal.returns-in-Fault
 unfolding planned table
-returns-in-Fault c = rw (c.requires, c.in-Fault.is) c.blocked.ensures
+returns-in-Fault c = rw (c.in-Fault.is, c.requires) c.blocked.ensures

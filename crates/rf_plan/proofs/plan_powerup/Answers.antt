@@ -29,4 +29,4 @@ returns-in-Trip c = rw (c.requires, c.in-Trip.is)
 
 pub returns-in-Fault : goal.returns-in-Fault
 unfolding planned table
-returns-in-Fault c = rw (c.requires, c.in-Fault.is) c.blocked.ensures
+returns-in-Fault c = rw (c.in-Fault.is, c.requires) c.blocked.ensures
