@@ -11,4 +11,4 @@ pub returns : goal.returns
 returns c = let l = c.args.transform in
     let t = c.args.threshold in
     let exact : c.ad5627_code.result ≡ level_code l t = c.ad5627_code.ensures ∙ ap ad5627_code c.invert-voltage.ensures in
-    (exact, subst (Right l t) (sym exact) (demand_3 l t))
+    record { exact = exact; close = subst (Right l t) (sym exact) (demand_3 l t) }
