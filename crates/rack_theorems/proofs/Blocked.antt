@@ -22,7 +22,7 @@ use Rattle.entry.specs.declared.Admitted.{Admitted}
 use Rattle.entry.specs.declared.Call.{Call}
 use Rattle.slots.specs.Slots.{slot_at}
 use Rattle.slot_call.specs.Step.{acts}
-use Rattle.rack_theorems.specs.History.{Past, next, goes_on_lem, Asked, StaysBlocked, IsBlocked, BlockedRule, IsHalted, HaltedBy, BlockedAlways}
+use Rattle.rack_theorems.specs.History.{Past, next, goes_on, Asked, StaysBlocked, IsBlocked, BlockedRule, IsHalted, HaltedBy, BlockedAlways}
 use Rattle.rack_theorems.proofs.Found.{NoChannel, Finds, found}
 use Rattle.rack_theorems.proofs.Seen.{keeps_ask, eight_kept, seen}
 
@@ -78,10 +78,10 @@ module _ (f : ChannelFault) where
 -- a slot that is blocked after the first of some calls, or halted by it
 module _ (f : ChannelFault) (n : ℕ) (past : Past) (a : Asked) (more : List Asked) where
   abbrev Still : Type 0
-  Still = IsBlocked f (slot_at (goes_on_lem past (a ∷ more)).rack n) ⊎ HaltedBy n past (a ∷ more)
+  Still = IsBlocked f (slot_at (goes_on past (a ∷ more)).rack n) ⊎ HaltedBy n past (a ∷ more)
 
-  later : IsBlocked f (slot_at (goes_on_lem (next past a) more).rack n) ⊎ HaltedBy n (next past a) more → Still
-  unfolding goes_on_lem HaltedBy
+  later : IsBlocked f (slot_at (goes_on (next past a) more).rack n) ⊎ HaltedBy n (next past a) more → Still
+  unfolding goes_on HaltedBy
   later (inl b) = inl b
   later (inr k) = inr (inr k)
 
@@ -91,7 +91,7 @@ module _ (f : ChannelFault) (n : ℕ) (past : Past) (a : Asked) (more : List Ask
   first (inr h) k = inr (inl h)
 
 pub blocked_always : BlockedAlways
-unfolding goes_on_lem
+unfolding goes_on
 blocked_always f past eight n inside h [] = inl h
 blocked_always f past eight n inside h (a ∷ more) =
     first f n past a more (or_halted f (slot_at (next past a).rack n) (blocked_rule f past.rack eight n inside h a)) (λ b. later f n past a more (blocked_always f (next past a) (eight_kept past.rack a eight) n inside b more))

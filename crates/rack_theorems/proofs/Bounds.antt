@@ -62,7 +62,7 @@ use Rattle.rf_settings.specs.declared.Written.{Written}
 use Rattle.rf_settings.specs.declared.Written.TheVariants.{Fine as Wrote, Failed as NotWritten}
 use Rattle.rf_settings.specs.declared.Wrong.{Wrong}
 use Rattle.rf_settings.specs.declared.Wrong.TheVariants.{Range, Chip, Bus}
-use Rattle.rf_settings.specs.Settings.{on_fine_lem, write_output, write_reflected, write_bias, write_changes, apply_settings, on_follow, following, refusing, on_applied, handle_settings}
+use Rattle.rf_settings.specs.Settings.{on_fine, write_output, write_reflected, write_bias, write_changes, apply_settings, on_follow, following, refusing, on_applied, handle_settings}
 use Rattle.rf_status.specs.declared.Detectors.{Detectors}
 use Rattle.rf_status.specs.declared.Measures.{Measures}
 use Rattle.rf_status.specs.declared.Measures.TheVariants.{All, Stopped as NotAll}
@@ -247,8 +247,8 @@ most_updating c g = most_within 7 _ (within_bind 0 faulted (λ o. 7) _ _ (on_che
 
 -- ---- settings
 
-on_fine_lem : (k : ℕ) (m : Run Written) → AtMost k m → (x : Written) → AtMost k (on_fine_lem m x)
-unfolding on_fine_lem
+on_fine_lem : (k : ℕ) (m : Run Written) → AtMost k m → (x : Written) → AtMost k (on_fine m x)
+unfolding on_fine
 on_fine_lem k m h Wrote = h
 on_fine_lem k m h (NotWritten wrong) = most_done k _
 

@@ -33,7 +33,7 @@ use Rattle.slots.specs.declared.Verdict.{Verdict}
 use Rattle.slots.specs.declared.Verdict.TheVariants.{Refused, Answered, Absent, Halted}
 use Rattle.slots.specs.Slots.{empty_rack, slot_at}
 use Rattle.slot_call.specs.Step.{acts}
-use Rattle.rack_theorems.specs.History.{Asked, on, Past, next, goes_on_lem, history, Eight}
+use Rattle.rack_theorems.specs.History.{Asked, on, Past, next, goes_on, history, Eight}
 use Rattle.rack_theorems.specs.Demand1.{Unchanged, LeftBy}
 use Rattle.rack_theorems.specs.Domain.{tick_by, tick_after, Steady, TickFits, InDomain, last_tick, Ordered, Wide, passes, leads, spoken, Near, Sane, SpeaksPlainly, PlainClock, LeadsNear, PlainEvents}
 use Rattle.rack_theorems.proofs.Found.{Finds, found}
@@ -169,15 +169,15 @@ module _ (n : ℕ) (inside : n < 8) (past : Past) (last : ℕ) (a : Asked) (eigh
   sane_call (Halted cause) e d = sane_heard d
 
 module _ (n : ℕ) (inside : n < 8) where
-  sane_on : (past : Past) (last : ℕ) (calls : List Asked) → Eight past.rack → InDomain past last calls → Sane last (slot_at past.rack n) → Sane (last_tick past last calls) (slot_at (goes_on_lem past calls).rack n)
-  unfolding goes_on_lem last_tick InDomain
+  sane_on : (past : Past) (last : ℕ) (calls : List Asked) → Eight past.rack → InDomain past last calls → Sane last (slot_at past.rack n) → Sane (last_tick past last calls) (slot_at (goes_on past calls).rack n)
+  unfolding goes_on last_tick InDomain
   sane_on past last [] eight d h = h
   sane_on past last (a ∷ more) eight d h =
       let v = (on past.rack a).verdict in
       sane_on (next past a) (tick_after v a.call last) more (eight_kept past.rack a eight) d.1 (sane_call n inside past last a eight h v refl d.0)
 
 pub plain_clock : PlainClock
-unfolding history goes_on_lem Sane
+unfolding history goes_on Sane
 plain_clock calls d n inside = speaks (last_tick (history []) 0 calls) (slot_at (history calls).rack n) (sane_on n inside (record { rack = empty_rack; rows = [] }) 0 calls refl d (rw (first_empty n inside) tt))
 
 -- ---- the domain is wide

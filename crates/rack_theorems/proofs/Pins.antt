@@ -11,7 +11,7 @@ use Rattle.entry.specs.declared.Admitted.{Admitted}
 use Rattle.entry.specs.declared.Call.{Call}
 use Rattle.slots.specs.Slots.{empty_rack, slot_at}
 use Rattle.slot_call.specs.Step.{acts}
-use Rattle.rack_theorems.specs.History.{Asked, on, Past, next, goes_on_lem, history, of_slot, PinsStand, PinRule, Eight}
+use Rattle.rack_theorems.specs.History.{Asked, on, Past, next, goes_on, history, of_slot, PinsStand, PinRule, Eight}
 use Rattle.rack_theorems.proofs.Found.{Finds, found}
 use Rattle.rack_theorems.proofs.Seen.{keeps_start, keeps_ask, of_append, eight_kept, seen, first_empty}
 
@@ -25,8 +25,8 @@ stand_acts p = found (λ s call b. PinsStand p s → Keeps p (acts b) (λ q x. P
 module _ (p : Levels) (n : ℕ) (inside : n < 8) where
   -- one call after the other
   stands_on : (past : Past) (calls : List Asked) → Eight past.rack → PinsStand (levels_after p (of_slot n past.rows)) (slot_at past.rack n)
-      → PinsStand (levels_after p (of_slot n (goes_on_lem past calls).rows)) (slot_at (goes_on_lem past calls).rack n)
-  unfolding goes_on_lem
+      → PinsStand (levels_after p (of_slot n (goes_on past calls).rows)) (slot_at (goes_on past calls).rack n)
+  unfolding goes_on
   stands_on past [] eight h = h
   stands_on past (a ∷ more) eight h =
       let q = levels_after p (of_slot n past.rows) in

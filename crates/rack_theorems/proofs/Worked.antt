@@ -21,7 +21,7 @@ use Rattle.rf_start.specs.Start.{beginning, monitor, preparing, on_present, modu
 use Rattle.rf_calls.specs.Requests.{requested}
 use Rattle.slot_call.specs.Step.{acts, stepped}
 use Rattle.rack_call.specs.Calls.{called}
-use Rattle.rack_theorems.specs.History.{goes_on_lem, history}
+use Rattle.rack_theorems.specs.History.{goes_on, history}
 use Rattle.rack_theorems.specs.Domain.{last_tick, Ordered}
 use Rattle.rack_theorems.specs.Worked.{worked, answers, Worked}
 use Rattle.rack_theorems.proofs.Domain.{wide}
@@ -31,5 +31,5 @@ unfolding Ordered
 ordered = ((omega arith, omega arith), ((omega arith, omega arith), ((omega arith, omega arith), tt)))
 
 pub works : Worked
-unfolding answers last_tick history goes_on_lem called stepped acts requested starting settling if_present levels module_there on_present preparing monitor beginning updating finishing after_stage trip_stage fault_stage on_check handle_startup quietly answering after_event or_halt apply_output set_reflected process_event carry planned table hardware reset_interlocks start_powerup pinch_off pin on_did Ads7924.opening Ads7924.get_voltage Ads7924.sample Ads7924.clear_alarm Ad5627.set_voltage Ad5627Opening.opening Dac7571.set_voltage Mcp3221.get_voltage on_got transfer note mapped bind done data_at got_at round neg of_bits le lt add mul div sub to_unsigned of_int ne
+unfolding answers last_tick history goes_on called stepped acts requested starting settling if_present levels module_there on_present preparing monitor beginning updating finishing after_stage trip_stage fault_stage on_check handle_startup quietly answering after_event or_halt apply_output set_reflected process_event carry planned table hardware reset_interlocks start_powerup pinch_off pin on_did Ads7924.opening Ads7924.get_voltage Ads7924.sample Ads7924.clear_alarm Ad5627.set_voltage Ad5627Opening.opening Dac7571.set_voltage Mcp3221.get_voltage on_got transfer note mapped bind done data_at got_at round neg of_bits le lt add mul div sub to_unsigned of_int ne
 works = record { in_domain = wide worked ordered; tick = refl; done = refl; powered = refl }

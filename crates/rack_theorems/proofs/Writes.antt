@@ -21,7 +21,7 @@ use Rattle.rf_changes.specs.declared.Changes.{Changes}
 use Rattle.rf_settings.specs.declared.Written.{Written}
 use Rattle.rf_settings.specs.declared.Written.TheVariants.{Fine, Failed}
 use Rattle.rf_settings.specs.declared.Wrong.TheVariants as W
-use Rattle.rf_settings.specs.Settings.{level_applied, bias_applied, on_fine_lem, write_output, write_reflected, write_bias, write_changes}
+use Rattle.rf_settings.specs.Settings.{level_applied, bias_applied, on_fine, write_output, write_reflected, write_bias, write_changes}
 use Rattle.rack_theorems.specs.Demand1.{Transfers, LastFailed}
 use Rattle.rf_machine.proofs.Gives.{Gives, gives_done, gives_bind, gives_mapped, gives_try}
 
@@ -70,8 +70,8 @@ module _ (n : ℕ) where
   wrote_due true f m h = gives_mapped f m h (λ rows a w. w)
   wrote_due false f m h = gives_done _ (record { moves = tt; chip = tt })
 
-  on_fine_lem : (k : Run Written) → Gives n k (Wrote n) → (rows : List Row) (w : Written) → Wrote n rows w → Gives n (on_fine_lem k w) (λ more z. Wrote n (rows ++ more) z)
-  unfolding on_fine_lem
+  on_fine_lem : (k : Run Written) → Gives n k (Wrote n) → (rows : List Row) (w : Written) → Wrote n rows w → Gives n (on_fine k w) (λ more z. Wrote n (rows ++ more) z)
+  unfolding on_fine
   on_fine_lem k f rows Fine h rs taken = let x = (f rs taken).holds in record { holds = record { moves = transfers_append rows _ h.moves x.moves; chip = chip_after rows _ _ x.chip } }
   on_fine_lem k f rows (Failed wrong) h rs taken = gives_done (Failed wrong) (rw (append-nil rows) h) rs taken
 

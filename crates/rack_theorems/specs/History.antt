@@ -52,13 +52,13 @@ pub record Past : Type 0 where
 abbrev pub next : Past → Asked → Past
 next past a = record { rack = (on past.rack a).rack; rows = past.rows ++ (on past.rack a).rows }
 
-unfoldable pub goes_on_lem : Past → List Asked → Past
-goes_on_lem past [] = past
-goes_on_lem past (a ∷ more) = goes_on_lem (next past a) more
+unfoldable pub goes_on : Past → List Asked → Past
+goes_on past [] = past
+goes_on past (a ∷ more) = goes_on (next past a) more
 
 -- from eight slots without a channel
 unfoldable pub history : List Asked → Past
-history calls = goes_on_lem (record { rack = empty_rack; rows = [] }) calls
+history calls = goes_on (record { rack = empty_rack; rows = [] }) calls
 
 -- the rows of one slot
 unfoldable pub of_slot : ℕ → List Row → List Row
@@ -110,4 +110,4 @@ HaltedBy n past (a ∷ more) = IsHalted (slot_at (next past a).rack n) ⊎ Halte
 
 -- any calls: the channel is still blocked by the same fault, unless the slot was halted in between, and may have been started anew
 abbrev pub BlockedAlways : Type 0
-BlockedAlways = (f : ChannelFault) (past : Past) → Eight past.rack → (n : ℕ) → n < 8 → IsBlocked f (slot_at past.rack n) → (calls : List Asked) → IsBlocked f (slot_at (goes_on_lem past calls).rack n) ⊎ HaltedBy n past calls
+BlockedAlways = (f : ChannelFault) (past : Past) → Eight past.rack → (n : ℕ) → n < 8 → IsBlocked f (slot_at past.rack n) → (calls : List Asked) → IsBlocked f (slot_at (goes_on past calls).rack n) ⊎ HaltedBy n past calls

@@ -20,7 +20,7 @@ use Rattle.replay_turn.specs.Turns.{Read, turns_text, Part, Parted, chunks_of, b
 record Feeds (r : Reading) (bytes behind : List ℕ) : Type 0 where
   reads : turned r (pos (length bytes)) (bytes ++ behind) ≡ ran r bytes
   writes : turned_text r (pos (length bytes)) (bytes ++ behind) ≡ ran_text r bytes
-  goes_on_lem : more_after (pos (length bytes)) ≡ true
+  goes_on : more_after (pos (length bytes)) ≡ true
 
 feeds : (r : Reading) (bytes behind : List ℕ) → 0 < length bytes → Feeds r bytes behind
 unfolding turned turned_text more_after
@@ -28,7 +28,7 @@ feeds r [] behind h = absurd (omega arith)
 feeds r (b ∷ l) behind h =
     let bytes : List ℕ = b ∷ l in
     let front : take (length bytes) (bytes ++ behind) ≡ bytes = take-append-le (length bytes) bytes behind (le_refl (length bytes)) ∙ take-length bytes in
-    record { reads = ap (ran r) front; writes = ap (ran_text r) front; goes_on_lem = refl }
+    record { reads = ap (ran r) front; writes = ap (ran_text r) front; goes_on = refl }
 
 -- the bytes of all parts are fed as if they came at once, and then the last turn is made
 module _ (last : Read) (later : List Read) (stops : more_after last.got ≡ false) where
@@ -38,7 +38,7 @@ module _ (last : Read) (later : List Read) (stops : more_after last.got ≡ fals
   parts_fed r [] h = rw (stops, append-nil)
   parts_fed r (p ∷ parts) h =
       let f = feeds r p.bytes p.behind h.0 in
-      rw (f.goes_on_lem, f.reads, f.writes, parts_fed (ran r p.bytes) parts h.2, text_append r p.bytes (bytes_of parts), ran_append r p.bytes (bytes_of parts), append_assoc)
+      rw (f.goes_on, f.reads, f.writes, parts_fed (ran r p.bytes) parts h.2, text_append r p.bytes (bytes_of parts), ran_append r p.bytes (bytes_of parts), append_assoc)
 
 -- no part is longer than what is fed at a time
 parts_short : (parts : List Part) → Parted parts → Short (chunks_of parts)

@@ -23,7 +23,7 @@ use Rattle.rf_settings.specs.declared.Applied.TheVariants.{Ok}
 use Rattle.rf_settings.specs.declared.Written.{Written}
 use Rattle.rf_settings.specs.declared.Written.TheVariants.{Fine, Failed}
 use Rattle.rf_settings.specs.declared.Wrong.TheVariants.{Range, Chip, Bus}
-use Rattle.rf_settings.specs.Settings.{level_applied, bias_applied, on_fine_lem, write_output, write_reflected, write_bias, write_changes, apply_settings, on_applied, handle_settings}
+use Rattle.rf_settings.specs.Settings.{level_applied, bias_applied, on_fine, write_output, write_reflected, write_bias, write_changes, apply_settings, on_applied, handle_settings}
 use Rattle.rf_settings.specs.Reasons.{Uncoded, output, reflected, bias, ToLevels, ToBias, EndsFailed, Reason, RangeOnly, EqualKeeps}
 
 ends_after : (To : Transfer → Type 0) (n : ℕ) (xs ys : List Row) → EndsFailed To n ys → EndsFailed To n (xs ++ ys)
@@ -58,8 +58,8 @@ module _ (due : Changes) (s : ChannelSettings) (n : ℕ) where
   due_or_not true f m h = gives_mapped f m (h refl) (λ rows a r. r)
   due_or_not false f m h = gives_done _ tt
 
-  on_fine_lem : (k : Run Written) → Gives n k (Reason due s n) → (rows : List Row) (w : Written) → Reason due s n rows w → Gives n (on_fine_lem k w) (λ more z. Reason due s n (rows ++ more) z)
-  unfolding on_fine_lem
+  on_fine_lem : (k : Run Written) → Gives n k (Reason due s n) → (rows : List Row) (w : Written) → Reason due s n rows w → Gives n (on_fine k w) (λ more z. Reason due s n (rows ++ more) z)
+  unfolding on_fine
   on_fine_lem k f rows Fine h rs taken = record { holds = reason_after rows _ _ (f rs taken).holds }
   on_fine_lem k f rows (Failed wrong) h rs taken = gives_done (Failed wrong) (rw (append-nil rows) h) rs taken
 

@@ -42,9 +42,9 @@ bias_applied B.Bus = Failed Bus
 
 -- ---- the writes
 
-unfoldable pub on_fine_lem : Run Written → Written → Run Written
-on_fine_lem k Fine = k
-on_fine_lem k (Failed wrong) = done (Failed wrong)
+unfoldable pub on_fine : Run Written → Written → Run Written
+on_fine k Fine = k
+on_fine k (Failed wrong) = done (Failed wrong)
 
 unfoldable pub write_output : Bool → ChannelSettings → Run Written
 write_output changed s = cond changed (mapped level_applied (apply_output s)) (done Fine)
@@ -57,7 +57,7 @@ write_bias changed s = cond changed (mapped bias_applied (apply_bias s)) (done F
 
 -- the first that goes wrong ends it
 unfoldable pub write_changes : Changes → ChannelSettings → Run Written
-write_changes due s = bind (write_output due.output s) (on_fine_lem (bind (write_reflected due.reflected s) (on_fine_lem (write_bias due.bias s))))
+write_changes due s = bind (write_output due.output s) (on_fine (bind (write_reflected due.reflected s) (on_fine (write_bias due.bias s))))
 
 -- ---- the call
 

@@ -42,7 +42,7 @@ use Rattle.rf_settings.specs.declared.Written.TheVariants.{Fine as Wrote, Failed
 use Rattle.rf_settings.specs.declared.Wrong.{Wrong}
 use Rattle.rf_settings.specs.declared.Wrong.TheVariants.{Range, Chip, Bus}
 use Rattle.rf_changes.specs.Changes.{same, changes_of, stored, event_of}
-use Rattle.rf_settings.specs.Settings.{on_fine_lem, write_output, write_reflected, write_bias, write_changes, applied_to, apply_settings, on_follow, following, refusing, on_applied, handle_settings}
+use Rattle.rf_settings.specs.Settings.{on_fine, write_output, write_reflected, write_bias, write_changes, applied_to, apply_settings, on_follow, following, refusing, on_applied, handle_settings}
 use Rattle.ads7924.specs.declared.Four.{Four}
 use Rattle.ads7924.specs.declared.Readings.{Readings}
 use Rattle.ads7924.specs.declared.Readings.TheVariants.{Volts, Bus as AllUnread}
@@ -67,8 +67,8 @@ Ends I q (Halted cause) = q ≡ low
 
 -- ---- writes and measurements leave the pins alone
 
-still_fine : (k : Run Written) → Still k → (w : Written) → Still (on_fine_lem k w)
-unfolding on_fine_lem
+still_fine : (k : Run Written) → Still k → (w : Written) → Still (on_fine k w)
+unfolding on_fine
 still_fine k s Wrote = s
 still_fine k s (NotWritten wrong) = still_done _
 

@@ -27,7 +27,7 @@ use Rattle.rf_call.specs.declared.Temperature.TheVariants.{Celsius}
 use Rattle.rf_call.specs.Calls.{after_event, answering, quietly}
 use Rattle.rf_tests.specs.Tests.{is_blocked}
 use Rattle.rf_start.specs.Start.{fresh}
-use Rattle.rf_settings.specs.Settings.{on_fine_lem, write_output, write_reflected, write_bias, write_changes, apply_settings, on_follow, following, on_applied, handle_settings}
+use Rattle.rf_settings.specs.Settings.{on_fine, write_output, write_reflected, write_bias, write_changes, apply_settings, on_follow, following, on_applied, handle_settings}
 use Rattle.rf_theorems.specs.Impostors.{state_after, NeverMovesFalls, OnlyAnswersFalls}
 use Rattle.rf_theorems.proofs.Events.{fault_blocks}
 
@@ -61,7 +61,7 @@ log = replicate 320 0
 
 -- the threshold from 15.0 to 14.0: the output level, and then the power-up that the settings ask for. So byte 1 of the log is the interlock chip's address
 address_seen : get_or (written log 0 (handle_settings (fresh first) second givens replies 0 0).rows) 1 0 ≡ 0x0E
-unfolding handle_settings apply_settings write_changes write_output write_reflected write_bias on_fine_lem on_applied following on_follow quietly answering after_event process_event carry planned table hardware start_powerup on_did pin pinch_off apply_output Dac7571.set_voltage Ad5627.set_voltage written put bytes laid done bind mapped note transfer on_got got_at data_at of_bits round neg eq ne lt le add sub mul div to_unsigned of_int
+unfolding handle_settings apply_settings write_changes write_output write_reflected write_bias on_fine on_applied following on_follow quietly answering after_event process_event carry planned table hardware start_powerup on_did pin pinch_off apply_output Dac7571.set_voltage Ad5627.set_voltage written put bytes laid done bind mapped note transfer on_got got_at data_at of_bits round neg eq ne lt le add sub mul div to_unsigned of_int
 address_seen = refl
 
 pub only_answers : OnlyAnswersFalls

@@ -15,7 +15,7 @@ use lib.Ieee.Order.{drop, kept, round_mono}
 use lib.Ieee.Bits.{of_bits-to_bits}
 use lib.Ieee.Scale.{grid, overflow, finite}
 use Rattle.steps.specs.Steps.{unit, magnitude, negative, IsNumber, gap}
-use Rattle.steps.specs.Rounding.{Size, Nearest, too_large_lem, Rounded, OneResult, EveryFraction}
+use Rattle.steps.specs.Rounding.{Size, Nearest, too_large, Rounded, OneResult, EveryFraction}
 use Rattle.steps.proofs.Closest.{Half, closest_half, closest_least, apart}
 use Rattle.steps.proofs.Apart.{in_units, one_more, few}
 use Rattle.steps.proofs.Round.{coarse, regroup, round_at, round_over, not_under}
@@ -135,7 +135,7 @@ at_halfway : grid binary32 (2 ^ 128 - 2 ^ 103) 1 ≡ overflow binary32
 unfolding size
 at_halfway = refl
 
-over : (a c : ℕ) → 0 < c → too_large_lem * c ≤ a * unit → overflow binary32 ≤ grid binary32 a c
+over : (a c : ℕ) → 0 < c → too_large * c ≤ a * unit → overflow binary32 ≤ grid binary32 a c
 over a c C h = le_of_suc-le-suc (lt_of_not-le (λ (l : grid binary32 a c < overflow binary32). not_under (round binary32 false a c) (grid binary32 a c) unit (round_at false a c l) (above l)))
   where
     cross : (2 ^ 128 - 2 ^ 103) * c ≤ a * 1
@@ -148,12 +148,12 @@ over a c C h = le_of_suc-le-suc (lt_of_not-le (λ (l : grid binary32 a c < overf
 top : (n u v t x : ℕ) → u ≡ 2 * v → t ≡ 33554431 * v → 2 * x ≤ 2 * n + u → 16777216 * u ≤ x → t ≤ n
 top n u v t x p q h l = omega arith
 
-at_top : (n d q : ℕ) → Half n (d * 2 ^ 253) q → overflow binary32 ≤ q * 2 ^ 253 → too_large_lem * d ≤ n
+at_top : (n d q : ℕ) → Half n (d * 2 ^ 253) q → overflow binary32 ≤ q * 2 ^ 253 → too_large * d ≤ n
 at_top n d q h o =
     let q24 : 2 ^ 24 ≤ q = le_of_mul-le-mul_right o (pow_pos 253) in
-    top n (d * 2 ^ 253) (d * 2 ^ 252) (too_large_lem * d) (q * (d * 2 ^ 253)) (mul_left_comm d 2 (2 ^ 252)) (regroup 33554431 252 d) h.over (mul-le-mul_right (d * 2 ^ 253) q24)
+    top n (d * 2 ^ 253) (d * 2 ^ 252) (too_large * d) (q * (d * 2 ^ 253)) (mul_left_comm d 2 (2 ^ 252)) (regroup 33554431 252 d) h.over (mul-le-mul_right (d * 2 ^ 253) q24)
 
-large : (n d q k : ℕ) → q ≤ 2 ^ 24 → (k ≡ 0) ⊎ (2 ^ 23 * (d * 2 ^ k) ≤ n) → Half n (d * 2 ^ k) q → overflow binary32 ≤ q * 2 ^ k → too_large_lem * d ≤ n
+large : (n d q k : ℕ) → q ≤ 2 ^ 24 → (k ≡ 0) ⊎ (2 ^ 23 * (d * 2 ^ k) ≤ n) → Half n (d * 2 ^ k) q → overflow binary32 ≤ q * 2 ^ k → too_large * d ≤ n
 large n d q k f c h o = elim (dec_le 254 k) [
   | yes g ↦ beyond g c
   | no g ↦
@@ -162,7 +162,7 @@ large n d q k f c h o = elim (dec_le 254 k) [
       at_top n d q (subst (λ (z : ℕ). Half n (d * 2 ^ z) q) e h) (subst (λ (z : ℕ). overflow binary32 ≤ q * 2 ^ z) e o))
 ]
   where
-    beyond : 254 ≤ k → (k ≡ 0) ⊎ (2 ^ 23 * (d * 2 ^ k) ≤ n) → too_large_lem * d ≤ n
+    beyond : 254 ≤ k → (k ≡ 0) ⊎ (2 ^ 23 * (d * 2 ^ k) ≤ n) → too_large * d ≤ n
     beyond g (inl z) = absurd (omega arith)
     beyond g (inr u) =
         le_trans (mul-le-mul_right d (le_of_lt (lit< tt)))
@@ -171,7 +171,7 @@ large n d q k f c h o = elim (dec_le 254 k) [
     lower : k < 253 → q * 2 ^ k < overflow binary32
     lower l = lt_of_le_of_lt (mul-le-mul_right (2 ^ k) f) (lt_of_le_of_lt (le_of_eq (sym (pow-add 2 24 k))) (pow-lt {j = 277} (omega arith)))
 
-under : (a c : ℕ) → 0 < c → a * unit < too_large_lem * c → grid binary32 a c < overflow binary32
+under : (a c : ℕ) → 0 < c → a * unit < too_large * c → grid binary32 a c < overflow binary32
 under a c C h =
     let n = a * unit in
     let k = drop 24 n c in
@@ -180,9 +180,9 @@ under a c C h =
 -- ---- the rounding of `lib.Ieee`
 
 pub every_fraction : EveryFraction
-every_fraction s a c C = record { number = number; infinite = λ (h : too_large_lem * c ≤ a * unit). round_over s a c (over a c C h) }
+every_fraction s a c C = record { number = number; infinite = λ (h : too_large * c ≤ a * unit). round_over s a c (over a c C h) }
   where
-    number : a * unit < too_large_lem * c → IsNumber (round binary32 s a c) × (negative (round binary32 s a c) ≡ s) × Nearest (a * unit) c (magnitude (round binary32 s a c))
+    number : a * unit < too_large * c → IsNumber (round binary32 s a c) × (negative (round binary32 s a c) ≡ s) × Nearest (a * unit) c (magnitude (round binary32 s a c))
     number h =
         let u = under a c C h in
         let (is, sign, steps) = rounded s a c u in
@@ -262,10 +262,10 @@ one_number x y p q s r =
     ∙ of_bits-to_bits binary32 y q.0
 
 pub one_result : OneResult
-one_result s n d D x y p q = elim (dec_lt n (too_large_lem * d)) [
+one_result s n d D x y p q = elim (dec_lt n (too_large * d)) [
   | yes l ↦
       (let (a, b, c) = p.number l in
       let (e, f, g) = q.number l in
       one_number x y a e (b ∙ sym f) (one_size n d (magnitude x) (magnitude y) D c g))
-  | no l ↦ (let h : too_large_lem * d ≤ n = le_of_suc-le-suc (lt_of_not-le l) in p.infinite h ∙ sym (q.infinite h))
+  | no l ↦ (let h : too_large * d ≤ n = le_of_suc-le-suc (lt_of_not-le l) in p.infinite h ∙ sym (q.infinite h))
 ]

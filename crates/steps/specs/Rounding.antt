@@ -21,13 +21,13 @@ pub record Nearest (n d r : ℕ) : Type 0 where
   pub even : (y : ℕ) → Size y → gap (r * d) n ≡ gap (y * d) n → (y ≡ r) ⊎ (size.m % 2 ≡ 0)
 
 -- halfway from the largest f32, 2 ^ 128 - 2 ^ 104, to 2 ^ 128, in steps
-abbrev pub too_large_lem : ℕ
-too_large_lem = (2 ^ 128 - 2 ^ 103) * unit
+abbrev pub too_large : ℕ
+too_large = (2 ^ 128 - 2 ^ 103) * unit
 
--- x is n / d steps with the sign s, rounded: the nearest f32, or from `too_large_lem` on the infinity
+-- x is n / d steps with the sign s, rounded: the nearest f32, or from `too_large` on the infinity
 pub record Rounded (s : Bool) (n d : ℕ) (x : Float) : Type 0 where
-  pub number : n < too_large_lem * d → IsNumber x × (negative x ≡ s) × Nearest n d (magnitude x)
-  pub infinite : too_large_lem * d ≤ n → x ≡ inf s
+  pub number : n < too_large * d → IsNumber x × (negative x ≡ s) × Nearest n d (magnitude x)
+  pub infinite : too_large * d ≤ n → x ≡ inf s
 
 -- ---- what is shown of it
 

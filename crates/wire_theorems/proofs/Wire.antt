@@ -30,7 +30,7 @@ use Rattle.rf_settings.specs.declared.Written.{Written}
 use Rattle.rf_settings.specs.declared.Written.TheVariants.{Fine, Failed}
 use Rattle.rf_settings.specs.declared.Wrong.{Wrong}
 use Rattle.rf_settings.specs.declared.Wrong.TheVariants.{Range, Chip, Bus}
-use Rattle.rf_settings.specs.Settings.{on_fine_lem, write_output, write_reflected, write_bias, write_changes, apply_settings, on_follow, following, refusing, on_applied, handle_settings}
+use Rattle.rf_settings.specs.Settings.{on_fine, write_output, write_reflected, write_bias, write_changes, apply_settings, on_follow, following, refusing, on_applied, handle_settings}
 use Rattle.rf_start.specs.declared.Presence.{Presence}
 use Rattle.rf_start.specs.declared.Presence.TheVariants.{Present, Absent}
 use Rattle.rf_start.specs.Start.{levels, settling, if_present, starting}
@@ -84,8 +84,8 @@ module _ (s : ChannelSettings) where
 
   -- ---- new settings
 
-  on_fine_lem : (k : Run Written) → Sent k → (w : Written) → Sent (on_fine_lem k w)
-  unfolding on_fine_lem
+  on_fine_lem : (k : Run Written) → Sent k → (w : Written) → Sent (on_fine k w)
+  unfolding on_fine
   on_fine_lem k h Fine = h
   on_fine_lem k h (Failed wrong) = each_done _
 

@@ -21,8 +21,8 @@ returns-in-GuardFalse c = rw (← c.plan_of-plan.ensures, c.in-GuardFalse.is) (d
 
 pub returns-in-Did : goal.returns-in-Did
 unfolding process_event carry
-returns-in-Did c = rw (← c.plan_of-plan.ensures, c.in-Go.is) (does_turned (arrived c.args.channel c.in-Go.action c.in-Go.state) c.act-acted.ensures (ap (λ x. Went x Moved) c.arrive-channel.ensures ∙ sym (ap (arrived c.args.channel c.in-Go.field-0 c.in-Go.field-1) c.in-Did.is)))
+returns-in-Did c = rw (← c.plan_of-plan.ensures, c.in-Go.is) (does_turned (arrived c.args.channel c.in-Go.action c.in-Go.state) c.act-acted.ensures (ap (λ x. Went x Moved) c.arrive-channel.ensures ∙ sym (ap (arrived c.args.channel c.in-Go.action c.in-Go.state) c.in-Did.is)))
 
 pub returns-in-Stop : goal.returns-in-Stop
 unfolding process_event carry
-returns-in-Stop c = rw (← c.plan_of-plan.ensures, c.in-Go.is) (does_turned (arrived c.args.channel c.in-Go.action c.in-Go.state) c.act-acted.ensures (sym (ap (arrived c.args.channel c.in-Go.field-0 c.in-Go.field-1) c.in-Stop.is)))
+returns-in-Stop c = rw (← c.plan_of-plan.ensures, c.in-Go.is) (does_turned (arrived c.args.channel c.in-Go.action c.in-Go.state) c.act-acted.ensures (sym (ap (arrived c.args.channel c.in-Go.action c.in-Go.state) c.in-Stop.is)))

@@ -1,10 +1,7 @@
 -- `rf_start::set_levels` meets its contract: a level that is not taken stops it, and after both it is done. Assumes nothing.
-use mathlib.Core.Logic.{◌⊎◌, ⊎_elim}
 use mathlib.Core.Path.{◌≡◌, refl, sym, ap, ◌∙◌}
-use native.Mathlib.Omega.{arith}
 use lib.Dec.{lit≤}
-use denote.Enum.Declared.{tag_of}
-use Rattle.ad5627.specs.contracts.Output.{the_type}
+use Rattle.std.specs.Prelude.{Float}
 use Rattle.ad5627.specs.declared.Output.TheVariants as L
 use Rattle.ad5627.specs.declared.Output.{Output}
 use Rattle.bus.proofs.Runs.{does_mapped, does_more, room_after, room_less}
@@ -16,8 +13,8 @@ use Rattle.rf_start.specs.Start.{level_set, levels}
 use Rattle.rf_start.proofs.set_levels.Goals as goal
 
 -- what is not volts ends it
-not_taken : (o : Output) → (tag_of the_type o ≡ 1) ⊎ (tag_of the_type o ≡ 2) → (cause : Cause) × (level_set o ≡ Stop cause)
-not_taken (L.Volts v) k = absurd (⊎_elim (λ e. omega arith) (λ e. omega arith) k)
+not_taken : (o : Output) → ((v : Float) → o ≡ L.Volts v → ⊥) → (cause : Cause) × (level_set o ≡ Stop cause)
+not_taken (L.Volts v) k = absurd (k v refl)
 not_taken L.Range k = (Threshold, refl)
 not_taken L.Bus k = (Bus, refl)
 
@@ -26,7 +23,7 @@ apply_output_interlock_threshold-programmed-requires c = room_less c.requires (l
 
 pub returns-in_default : goal.returns-in_default
 unfolding levels
-returns-in_default c = does_more (does_stop _ (does_told level_set c.apply_output_interlock_threshold-programmed.ensures (c.acted.ensures.0 ∙ c.level_effect-effect.ensures) c.acted.ensures.1) (c.acted.ensures.0 ∙ c.level_effect-effect.ensures ∙ (not_taken c.apply_output_interlock_threshold-programmed.result.output c.in-Volts.keys2).1)) (lit≤ tt) (lit≤ tt)
+returns-in_default c = does_more (does_stop _ (does_told level_set c.apply_output_interlock_threshold-programmed.ensures (c.acted.ensures.0 ∙ c.level_effect-effect.ensures) c.acted.ensures.1) (c.acted.ensures.0 ∙ c.level_effect-effect.ensures ∙ (not_taken c.apply_output_interlock_threshold-programmed.result.output c.in_default.not-Volts).1)) (lit≤ tt) (lit≤ tt)
 
 pub set_reflected_interlock_threshold-programmed-requires : goal.set_reflected_interlock_threshold-programmed-requires
 set_reflected_interlock_threshold-programmed-requires c = room_after c.apply_output_interlock_threshold-programmed.ensures c.requires
