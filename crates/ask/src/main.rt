@@ -13,6 +13,7 @@ use std::io::{Read, Stdin};
 
 // The numbers of the standard output and of the standard error.
 const STDOUT: i32 = 1;
+
 const STDERR: i32 = 2;
 
 const LF: u8 = 10;

@@ -4,6 +4,7 @@ use crate::answer::Place;
 
 // The numbers of the standard output and of the standard error.
 const STDOUT: i32 = 1;
+
 const STDERR: i32 = 2;
 
 const LF: u8 = 10;

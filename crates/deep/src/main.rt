@@ -22,7 +22,13 @@ fn got(input: &mut Stdin, chunk: &mut [u8]) -> isize {
 }
 
 // Reads a chunk and does its lines.
-fn turn(input: &mut Stdin, reading: Reading, log: &mut [u8], hold: &mut [u8; 514], chunk: &mut [u8]) -> Reading {
+fn turn(
+    input: &mut Stdin,
+    reading: Reading,
+    log: &mut [u8],
+    hold: &mut [u8; 514],
+    chunk: &mut [u8],
+) -> Reading {
     let came = got(input, chunk);
     if came < 0 {
         io::write_all(STDERR, b"The lines cannot be read.\n");

@@ -5,6 +5,7 @@ use std::io::Read;
 
 // The numbers of the standard output and of the standard error.
 const STDOUT: i32 = 1;
+
 const STDERR: i32 = 2;
 
 // Writes the first `past` bytes of the buffer.

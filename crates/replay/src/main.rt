@@ -7,6 +7,7 @@ use std::io::{Read, Stdin};
 
 // The numbers of the standard output and of the standard error.
 const STDOUT: i32 = 1;
+
 const STDERR: i32 = 2;
 
 // Writes the first `past` bytes of the buffer.
@@ -66,6 +67,8 @@ fn main(rt: HostRuntime) {
     let fed = replay_feed::begin(&mut out);
     let replay = fed.replay;
     if send(&out, fed.past) {
-        turns(&mut input, replay, &mut log, &mut hold, &mut chunk, &mut out);
+        turns(
+            &mut input, replay, &mut log, &mut hold, &mut chunk, &mut out,
+        );
     }
 }

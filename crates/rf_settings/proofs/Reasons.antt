@@ -11,12 +11,16 @@ use Rattle.conversions.specs.declared.Conversion.{Conversion}
 use Rattle.conversions.specs.declared.Conversion.TheVariants.{Code, Range as Refused}
 use Rattle.dac7571.specs.Voltage as Dac7571
 use Rattle.ad5627.specs.declared.Dac.{Dac}
+use Rattle.ad5627.specs.declared.Dac.TheVariants.{A, B}
+use Rattle.conversions.specs.Codes.{dac7571_code}
+use Rattle.interlock.specs.Level.{level_code}
+use Rattle.std.specs.Float.Ieee.{neg}
 use Rattle.ad5627.specs.Voltage as Ad5627
 use Rattle.rf_channel.specs.declared.ChannelSettings.{ChannelSettings}
 use Rattle.rf_channel.specs.declared.RfChannel.{RfChannel}
 use Rattle.rf_machine.specs.Hardware.{apply_bias}
 use Rattle.rf_machine.proofs.Gives.{Gives, gives_done, gives_bind, gives_mapped, gives_try}
-use Rattle.rf_devices.specs.Devices.{apply_output, set_reflected}
+use Rattle.rf_devices.specs.Devices.{highest_reflected, apply_output, set_reflected}
 use Rattle.rf_changes.specs.declared.Changes.{Changes}
 use Rattle.rf_changes.specs.Changes.{same}
 use Rattle.rf_settings.specs.declared.Applied.TheVariants.{Ok}
@@ -66,8 +70,8 @@ module _ (due : Changes) (s : ChannelSettings) (n : ℕ) where
   pub reasons : Gives n (write_changes due s) (Reason due s n)
   unfolding write_changes write_output write_reflected write_bias apply_output set_reflected apply_bias Dac7571.set_voltage
   reasons =
-      gives_bind _ _ (due_or_not due.output _ _ (λ e. level_sent _ _ (output e)))
-      (on_fine_lem _ (gives_bind _ _ (due_or_not due.reflected _ _ (λ e. level_sent _ _ (reflected e))) (on_fine_lem _ (due_or_not due.bias _ _ (λ e. bias_sent _ (bias e))))))
+      gives_bind _ _ (due_or_not due.output _ _ (λ e. level_sent B (level_code s.output_power_transform s.output_interlock_threshold) (output e)))
+      (on_fine_lem _ (gives_bind _ _ (due_or_not due.reflected _ _ (λ e. level_sent A (level_code s.reflected_power_transform highest_reflected) (reflected e))) (on_fine_lem _ (due_or_not due.bias _ _ (λ e. bias_sent (dac7571_code (neg s.bias_voltage)) (bias e))))))
 
 pub range_only : RangeOnly write_changes
 range_only due s rs slot taken = (reasons due s slot rs taken).holds

@@ -20,6 +20,7 @@ use Rattle.bus.specs.Run.{Run, done, mapped, note}
 use Rattle.dac7571.specs.declared.Output as Bo
 use Rattle.dac7571.specs.declared.Output.TheVariants as B
 use Rattle.ad5627.specs.declared.Dac.{Dac}
+use Rattle.ad5627.specs.declared.Dac.TheVariants.{A, B}
 use Rattle.ad5627.specs.Voltage.{send_code}
 use Rattle.ads7924.specs.declared.Alarm as Al
 use Rattle.ads7924.specs.declared.Alarm.TheVariants as M
@@ -176,7 +177,7 @@ halts_starting s present n =
     gives_bind _ _ (stops_pin (ALevel s) n)
     (or_halt_lem (ALevel s) n _
     (gives_bind (module_there present) _ (gives_any (module_there present)) (λ rows x t. if_present_lem (ALevel s) n _
-    (gives_bind _ _ (stops_then (ALevel s) n _ _ (level_stops (ALevel s) n _ _ (λ e. inl (refusable _ _ e))) (level_stops (ALevel s) n _ _ (λ e. inr (refusable_30 _ e))))
+    (gives_bind _ _ (stops_then (ALevel s) n _ _ (level_stops (ALevel s) n B (level_code s.output_power_transform s.output_interlock_threshold) (λ e. inl (refusable _ _ e))) (level_stops (ALevel s) n A (level_code s.reflected_power_transform highest_reflected) (λ e. inr (refusable_30 _ e))))
     (or_halt_lem (ALevel s) n _ (gives_done _ tt))) x)))
 
 start_refused : (s : ChannelSettings) (present : Bool) (rs : List ℕ) (n taken : ℕ) → (starting s present rs n taken).ans ≡ Halted K.Threshold → ALevel s

@@ -37,6 +37,7 @@ use Rattle.rf_start.specs.Start.{levels, settling, if_present, starting}
 use Rattle.rf_calls.specs.declared.Request.{Request}
 use Rattle.rf_calls.specs.declared.Request.TheVariants.{Startup, Update, Reset, Standby, Settings, Status}
 use Rattle.rf_calls.specs.Requests.{requested}
+use Rattle.ad5627.specs.declared.Dac.TheVariants.{A, B}
 use Rattle.wire_theorems.specs.Wire.{Writes, Carries, thirty, LevelOf, MayWrite, CodesSent}
 use Rattle.wire_theorems.proofs.Each.{Each, each_done, each_cond, each_bind, each_mapped}
 use Rattle.wire_theorems.proofs.Chips.{each_ad5627, quiet_bias}
@@ -58,11 +59,11 @@ module _ (s : ChannelSettings) where
 
   sent_output : Sent (apply_output s)
   unfolding apply_output
-  sent_output = each_ad5627 (LevelOf s) _ _ (λ code e. inl (carried 1 _ _ code e))
+  sent_output = each_ad5627 (LevelOf s) B (level_code s.output_power_transform s.output_interlock_threshold) (λ code e. inl (carried 1 _ _ code e))
 
   sent_reflected : Sent (set_reflected s highest_reflected)
   unfolding set_reflected
-  sent_reflected = rw thirty_is (each_ad5627 (LevelOf s) _ _ (λ code e. inr (carried 0 _ _ code e)))
+  sent_reflected = rw thirty_is (each_ad5627 (LevelOf s) A (level_code s.reflected_power_transform thirty) (λ code e. inr (carried 0 _ _ code e)))
 
   -- ---- the start
 

@@ -1,10 +1,8 @@
--- `ask::turns` is safe. The loop's invariant: the chunk keeps its length. The measure is the turns that are left. Assumes nothing.
-use mathlib.Core.Path.{◌≡◌}
-use lib.ListN.{length}
+-- `ask::turns` is safe. A slice keeps its length, so the loop has nothing to keep. The measure is the turns that are left. Assumes nothing.
 use Rattle.ask.proofs.turns.Given as goal
 
 abbrev pub invariant-loop-left : goal.invariant-loop-left
-invariant-loop-left l = length l.input ≡ length l.initial.hold
+invariant-loop-left l = Unit {0}
 
 abbrev pub decreases-loop-left : goal.decreases-loop-left
-decreases-loop-left l = l.chunk
+decreases-loop-left l = l.left

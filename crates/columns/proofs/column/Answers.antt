@@ -1,7 +1,6 @@
 -- `columns::column` meets its contract. The loop's invariant: column `left` of the line from `start` on is column k of the line. Where nothing is left to pass, the column is what stands before the next comma. The measure is what is left of the line. Assumes nothing.
 use Prim.Native.Nat.{ℕ, ◌-◌, ◌<◌}
 use mathlib.Core.Path.{◌≡◌, refl, sym, ap, ◌∙◌}
-use mathlib.Core.Logic.{⊎_elim}
 use mathlib.Core.List.{List}
 use native.Mathlib.Omega.{arith}
 use lib.ListN.{length, drop}
@@ -10,6 +9,7 @@ use Rattle.scan.specs.Scan.{index_of, slice}
 use Rattle.columns.specs.Columns.{comma}
 use Rattle.columns.proofs.Laws.{column_comma, column_other, column_end, first_front}
 use Rattle.columns.proofs.column.Goals as goal
+use Rattle.columns.proofs.column.Goals.{then-s-start-eq-COMMA, else-s-start-eq-COMMA}
 
 -- up to the end, a slice is what stands from its start on
 slice_end : (s : List ℕ) (i : ℕ) → slice i (length s) s ≡ drop i s
@@ -43,10 +43,10 @@ loop-left-preserved c = let s = c.args.s.now in
     let l = c.loop-left in
     let more = c.if-s-start.false in
     let some : 0 < l.left = omega arith in
-    ⊎_elim
-    (λ w. (omega arith, rw w.1 (sym (column_comma s l.start more l.left some w.0.taken) ∙ l.invariant.1)))
-    (λ w. (omega arith, rw w.1 (sym (column_other s l.start more l.left some w.0.left) ∙ l.invariant.1)))
-    c.if-s-start-eq-COMMA.branch
+    elim c.if-s-start-eq-COMMA.branch [
+      | then-s-start-eq-COMMA w ↦ (omega arith, rw w.left-is (sym (column_comma s l.start more l.left some w.if-s-start-eq-COMMA.true) ∙ l.invariant.1))
+      | else-s-start-eq-COMMA w ↦ (omega arith, rw w.left-is (sym (column_other s l.start more l.left some w.if-s-start-eq-COMMA.false) ∙ l.invariant.1))
+    ]
 
 pub find-end-requires : goal.find-end-requires
 find-end-requires c = omega arith
@@ -55,5 +55,5 @@ pub returns : goal.returns
 returns c = let s = c.args.s.now in
     let l = c.loop-left in
     let none : l.left ≡ 0 = omega arith in
-    let long : c.find-end.result - l.start ≡ index_of comma (slice l.start (length s) s) = omega (arith, c.find-end.ensures.0) in
-    record { order = omega (arith, c.find-end.ensures.0); within = c.find-end.ensures.1; part = rw (long, slice_end s l.start, first_front (drop l.start s)) (rw none at l.invariant.1) }
+    let long : c.find-end.result - l.start ≡ index_of comma (slice l.start (length s) s) = omega (arith, c.find-end.ensures.place) in
+    record { order = omega (arith, c.find-end.ensures.place); within = c.find-end.ensures.bound; part = rw (long, slice_end s l.start, first_front (drop l.start s)) (rw none at l.invariant.1) }

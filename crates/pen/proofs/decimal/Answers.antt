@@ -5,4 +5,4 @@ use Rattle.pen.proofs.decimal.Goals as goal
 pub returns : goal.returns
 returns c = let n = c.args.n in
     let told = c.decimal-k in
-    rw (told.ensures.1.1, decimal_is n told.result told.ensures.1.0) at c.bytes.ensures
+    rw (told.ensures.digits, decimal_is n told.result told.ensures.len) at c.bytes.ensures

@@ -16,8 +16,8 @@ halt-requires c = room_halt (room_after c.measure-taken.ensures c.requires.0)
 
 pub returns-in-All : goal.returns-in-All
 unfolding getting_status on_measures
-returns-in-All c = (does_more (does_then (on_measures _ _) c.measure-taken.ensures c.in-All.is (does_here (c.live.ensures.0 ∙ rw c.status_of-status.ensures) c.live.ensures.1)) (lit≤ tt) (lit≤ tt), shown_all _ c.measure-taken.ensures c.in-All.is c.fill.ensures)
+returns-in-All c = (does_more (does_then (on_measures c.args.channel c.args.givens) c.measure-taken.ensures c.in-All.is (does_here (c.live.ensures.0 ∙ rw c.status_of-status.ensures) c.live.ensures.1)) (lit≤ tt) (lit≤ tt), shown_all c.args.numbers.now c.measure-taken.ensures c.in-All.is c.fill.ensures)
 
 pub returns-in-Stopped : goal.returns-in-Stopped
 unfolding getting_status on_measures
-returns-in-Stopped c = (does_then (on_measures _ _) c.measure-taken.ensures c.in-Stopped.is (c.halt.ensures _), shown_none _ c.measure-taken.ensures c.in-Stopped.is)
+returns-in-Stopped c = (does_then (on_measures c.args.channel c.args.givens) c.measure-taken.ensures c.in-Stopped.is (c.halt.ensures _), shown_none c.args.numbers.now c.measure-taken.ensures c.in-Stopped.is)

@@ -9,22 +9,21 @@ use Rattle.sheet.proofs.Lengths.{level_column}
 use Rattle.sheet.proofs.Parts.{standing_parts}
 use Rattle.sheet.proofs.put_standing.Goals as goal
 
-past_state : (c : tie.After-put-slot) → c.put-slot.result + 5 ≤ length c.put-slot.new.0
-past_state c = room_past 25 5 c.put-slot.ensures (state_length _) c.before.before.before.before.before.requires
-
-past_comma : (c : tie.After-put-bytes) → c.put-bytes.result + 4 ≤ length c.put-bytes.new.0
-past_comma c = room_past 1 4 c.put-bytes.ensures (lit≤ tt) (past_state c.before.before.before.before.before)
-
 -- ---- the calls
 
 pub put_bytes-past_comma-requires : goal.put_bytes-past_comma-requires
-put_bytes-past_comma-requires c = omega (arith, past_state c)
+put_bytes-past_comma-requires c = let past_state = room_past 25 5 c.put_slot-past_state.ensures (state_length _) c.requires in
+    omega (arith, past_state)
 
 pub put_level-past_power-requires : goal.put_level-past_power-requires
-put_level-past_power-requires c = omega (arith, past_comma c)
+put_level-past_power-requires c = let past_state = room_past 25 5 c.put_slot-past_state.ensures (state_length _) c.requires in
+    let past_comma = room_past 1 4 c.put_bytes-past_comma.ensures (lit≤ tt) past_state in
+    omega (arith, past_comma)
 
 pub put_level-requires : goal.put_level-requires
-put_level-requires c = room_past 2 2 c.put_level-past_power.ensures (level_column _) (past_comma c)
+put_level-requires c = let past_state = room_past 25 5 c.put_slot-past_state.ensures (state_length _) c.requires in
+    let past_comma = room_past 1 4 c.put_bytes-past_comma.ensures (lit≤ tt) past_state in
+    room_past 2 2 c.put_level-past_power.ensures (level_column _) past_comma
 
 pub returns : goal.returns
 returns c = let state = c.put_slot-past_state.ensures in

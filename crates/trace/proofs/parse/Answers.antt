@@ -19,12 +19,12 @@ returns-then-n-ne9 c = rw (le-leb (length c.args.s.now) 512 (omega arith), ne_eq
 
 pub returns-in_default : goal.returns-in_default
 unfolding parsed_of
-returns-in_default c = rw (le-leb (length c.args.s.now) 512 (omega arith), eq-eqb (count_of c.args.s.now) 9 (sym c.count-n.ensures ∙ c.if-n-ne9.false), sym (c.fits2.ensures ∙ ap fits_of c.part-replies.ensures) ∙ c.if-fits.true, sym c.givens_of-given.ensures ∙ c.in_default.is)
+returns-in_default c = rw (le-leb (length c.args.s.now) 512 (omega arith), eq-eqb (count_of c.args.s.now) 9 (sym c.count-n.ensures ∙ c.if-n-ne9.false), sym (c.fits.ensures ∙ ap fits_of c.part-replies.ensures) ∙ c.if-fits.true, sym c.givens_of-given.ensures ∙ c.in_default.is)
 
 pub returns-in-Is : goal.returns-in-Is
 unfolding parsed_of
-returns-in-Is c = rw (le-leb (length c.args.s.now) 512 (omega arith), eq-eqb (count_of c.args.s.now) 9 (sym c.count-n.ensures ∙ c.if-n-ne9.false), sym (c.fits2.ensures ∙ ap fits_of c.part-replies.ensures) ∙ c.if-fits.true, sym c.givens_of-given.ensures ∙ c.in-Is.is, sym (c.name_of-name.ensures ∙ ap name_of c.part-second.ensures), sym c.part-last.ensures) c.call_of.ensures
+returns-in-Is c = rw (le-leb (length c.args.s.now) 512 (omega arith), eq-eqb (count_of c.args.s.now) 9 (sym c.count-n.ensures ∙ c.if-n-ne9.false), sym (c.fits.ensures ∙ ap fits_of c.part-replies.ensures) ∙ c.if-fits.true, sym c.givens_of-given.ensures ∙ c.in-Is.is, sym (c.name_of-name.ensures ∙ ap name_of c.part-second.ensures), sym c.part-last.ensures) c.call_of.ensures
 
 pub returns-else-fits : goal.returns-else-fits
 unfolding parsed_of
-returns-else-fits c = rw (le-leb (length c.args.s.now) 512 (omega arith), eq-eqb (count_of c.args.s.now) 9 (sym c.count-n.ensures ∙ c.if-n-ne9.false), sym (c.fits2.ensures ∙ ap fits_of c.part-replies.ensures) ∙ c.if-fits.false)
+returns-else-fits c = rw (le-leb (length c.args.s.now) 512 (omega arith), eq-eqb (count_of c.args.s.now) 9 (sym c.count-n.ensures ∙ c.if-n-ne9.false), sym (c.fits.ensures ∙ ap fits_of c.part-replies.ensures) ∙ c.if-fits.false)
