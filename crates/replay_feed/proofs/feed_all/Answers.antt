@@ -8,13 +8,13 @@ pub loop-i-preserved-then-b-eq-LF : goal.loop-i-preserved-then-b-eq-LF
 loop-i-preserved-then-b-eq-LF c = let start = c.args in
     let inv = c.loop-i.invariant in
     let ended = c.end_line-fed.ensures in
-    (omega (arith, c.loop-i-test.true), omega (arith, c.end_line-fed.auto.1, inv.1), inv.2, omega (arith, inv.3, ended.2), fed_feed (reading start.replay start.log.now start.hold.now) start.chunk.now c.loop-i.i c.loop-i-test.true c.if-b-eq-LF.true inv.4 ended.0 ended.1)
+    (omega (arith, c.loop-i-test.true), omega (arith, c.end_line-fed.auto.log, inv.1), inv.2, omega (arith, inv.3, ended.2), fed_feed (reading start.replay start.log.now start.hold.now) start.chunk.now c.loop-i.i c.loop-i-test.true c.if-b-eq-LF.true inv.4 ended.0 ended.1)
 
 pub loop-i-preserved : goal.loop-i-preserved
 loop-i-preserved c = let start = c.args in
     let inv = c.loop-i.invariant in
     let keep = c.keep-held.ensures in
-    (omega (arith, c.loop-i-test.true), inv.1, c.keep-held.auto.0 ∙ inv.2, omega (arith, inv.3), fed_kept (reading start.replay start.log.now start.hold.now) start.chunk.now c.loop-i.i c.loop-i-test.true c.if-b-eq-LF.false inv.4 (byte_kept (reading c.loop-i.replay c.loop-i.log c.loop-i.hold) (get_or start.chunk.now c.loop-i.i 0) keep.0 keep.1))
+    (omega (arith, c.loop-i-test.true), inv.1, c.keep-held.auto.hold ∙ inv.2, omega (arith, inv.3), fed_kept (reading start.replay start.log.now start.hold.now) start.chunk.now c.loop-i.i c.loop-i-test.true c.if-b-eq-LF.false inv.4 (byte_kept (reading c.loop-i.replay c.loop-i.log c.loop-i.hold) (get_or start.chunk.now c.loop-i.i 0) keep.0 keep.1))
 
 pub returns : goal.returns
 returns c = let start = c.args in
