@@ -1,8 +1,13 @@
 -- `replay_feed::feed_all` meets its contract. The loop's invariant: what the chunk's first i bytes give is done and written, in at most 96 bytes for each; the buffers' lengths stay. The measure is what is left of the chunk. Assumes nothing.
-use Rattle.std.proofs.Common.{get_or, ◌∙◌, arith, take_all}
-use Rattle.replay_feed.specs.Feed.{reading}
+use Rattle.std.proofs.Common.{get_or, ◌∙◌, arith, rules, take_all}
+use Rattle.replay_feed.specs.Feed.{reading, ran, ran_text}
 use Rattle.replay_feed.proofs.Laws.{fed_feed, fed_kept, byte_kept}
 use Rattle.replay_feed.proofs.feed_all.Goals as goal
+
+-- of no byte nothing comes
+pub loop-i-init : goal.loop-i-init
+unfolding ran ran_text
+loop-i-init c = search rules
 
 pub loop-i-preserved-then-b-eq-LF : goal.loop-i-preserved-then-b-eq-LF
 loop-i-preserved-then-b-eq-LF c = let start = c.args in
