@@ -11,9 +11,10 @@ mod words;
 
 use std::io::{Read, Stdin};
 
-// The numbers of the standard output and of the standard error.
+// The number of the standard output.
 const STDOUT: i32 = 1;
 
+// The number of the standard error.
 const STDERR: i32 = 2;
 
 const LF: u8 = 10;

@@ -2,9 +2,10 @@
 // a buffer that the caller lends. What a line gives is written to standard output at once.
 use crate::answer::Place;
 
-// The numbers of the standard output and of the standard error.
+// The number of the standard output.
 const STDOUT: i32 = 1;
 
+// The number of the standard error.
 const STDERR: i32 = 2;
 
 const LF: u8 = 10;

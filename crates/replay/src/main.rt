@@ -5,9 +5,10 @@
 use replay_feed::{CHUNK, Replay};
 use std::io::{Read, Stdin};
 
-// The numbers of the standard output and of the standard error.
+// The number of the standard output.
 const STDOUT: i32 = 1;
 
+// The number of the standard error.
 const STDERR: i32 = 2;
 
 // Writes the first `past` bytes of the buffer.

@@ -12,7 +12,7 @@ use lib.Seq.{take_all, take-append-le, take-suc-set}
 use borrow.Author.Tests.{eq-eqb, ne_eqb, leb-true, leb-false}
 use Rattle.line_hold.specs.Hold.{room, held_after, kept_in, without_cr}
 use Rattle.replay_line.specs.Line.{State, after_line}
-use Rattle.replay_feed.specs.Feed.{LF, Place, passed, passed_text, Reading, fresh, reading, bytes_held, kept, ended, ended_text, ran, ran_text, finished_text}
+use Rattle.replay_feed.specs.Feed.{line_feed, Place, passed, passed_text, Reading, fresh, reading, bytes_held, kept, ended, ended_text, ran, ran_text, finished_text}
 use Rattle.replay_theorems.specs.Whole.{lines_from, lines_of, behind_header, answered, log, start, whole, joined, Short, chunked}
 use Rattle.replay_theorems.proofs.Runs.{ran_whole, fed_whole}
 use Rattle.replay_theorems.proofs.Held.{Alike, front_open, front_ended}
@@ -68,7 +68,7 @@ ran_told : (r : Reading) (l input : List ℕ) → Holds r l → ran_whole r inpu
 unfolding ran ran_text lines_from told kept ended ended_text finished_text
 ran_told r [] [] h = rw (eq-eqb r.held 0 h.count)
 ran_told r (b ∷ l) [] h = rw (ne_eqb r.held 0 (λ z. omega arith), append-nil, h.front, text_alike r.place (front_open (b ∷ l)))
-ran_told r l (b ∷ input) h = go (eqb b LF) (ran_told (ended r) [] input (ended_holds r l h)) (ran_told (kept r b) (l ++ b ∷ []) input (kept_holds r l b h))
+ran_told r l (b ∷ input) h = go (eqb b line_feed) (ran_told (ended r) [] input (ended_holds r l h)) (ran_told (kept r b) (l ++ b ∷ []) input (kept_holds r l b h))
   where
     go : (t : Bool) → ran_whole (ended r) input ≡ told (ended r).place (lines_from [] input) → ran_whole (kept r b) input ≡ told r.place (lines_from (l ++ b ∷ []) input)
         → cond t (ended_text r) [] ++ ran_text (cond t (ended r) (kept r b)) input ++ finished_text (ran (cond t (ended r) (kept r b)) input)
@@ -96,7 +96,7 @@ lines_few : (l input : List ℕ) → length (lines_from l input) ≤ length l + 
 unfolding lines_from
 lines_few [] [] = omega arith
 lines_few (b ∷ l) [] = omega arith
-lines_few l (b ∷ input) = go (eqb b LF) (lines_few [] input) (rw length-append at (lines_few (l ++ b ∷ []) input))
+lines_few l (b ∷ input) = go (eqb b line_feed) (lines_few [] input) (rw length-append at (lines_few (l ++ b ∷ []) input))
   where
     go : (t : Bool) → length (lines_from [] input) ≤ 0 + length input → length (lines_from (l ++ b ∷ []) input) ≤ length l + 1 + length input
         → length (cond t (without_cr l ∷ lines_from [] input) (lines_from (l ++ b ∷ []) input)) ≤ length l + suc (length input)

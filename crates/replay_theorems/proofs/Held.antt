@@ -11,7 +11,7 @@ use borrow.Author.Tests.{lt-leb, leb-true, leb-false}
 use Rattle.trace.specs.declared.Parsed.TheVariants.{Bad}
 use Rattle.trace.specs.Trace.{parsed_of}
 use Rattle.sheet.specs.Lines.{bad_text}
-use Rattle.line_hold.specs.Hold.{CR, room, last_of, end_of, without_cr}
+use Rattle.line_hold.specs.Hold.{carriage_return, room, last_of, end_of, without_cr}
 use Rattle.replay_line.specs.Line.{State, after_line, line_text}
 
 -- ---- a line that does not fit
@@ -57,7 +57,7 @@ front_alike f few l = go (leb (length l) room) refl
 
 without_few : (l : List ℕ) → length l ≤ length (without_cr l) + 1
 unfolding without_cr end_of
-without_few l = rw length-take (go (eqb (last_of l) CR))
+without_few l = rw length-take (go (eqb (last_of l) carriage_return))
   where
     go : (t : Bool) → length l ≤ min (cond t (length l - 1) (length l)) (length l) + 1
     go true = omega arith

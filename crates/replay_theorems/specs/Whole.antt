@@ -4,7 +4,7 @@ use Rattle.slots.specs.Slots.{empty_rack}
 use Rattle.sheet.specs.Lines.{header_text}
 use Rattle.line_hold.specs.Hold.{without_cr}
 use Rattle.replay_line.specs.Line.{State, after_line, line_text}
-use Rattle.replay_feed.specs.Feed.{LF, Reading, fresh, reading, ran, ran_text, finished_text}
+use Rattle.replay_feed.specs.Feed.{line_feed, Reading, fresh, reading, ran, ran_text, finished_text}
 
 -- ---- the lines of an input
 
@@ -16,7 +16,7 @@ rest (b ∷ l) = (b ∷ l) ∷ []
 -- l is what has been read of the line. A line feed ends it, and a CR before that is of the line's end
 unfoldable pub lines_from : List ℕ → List ℕ → List (List ℕ)
 lines_from l [] = rest l
-lines_from l (b ∷ input) = cond (eqb b LF) (without_cr l ∷ lines_from [] input) (lines_from (l ++ b ∷ []) input)
+lines_from l (b ∷ input) = cond (eqb b line_feed) (without_cr l ∷ lines_from [] input) (lines_from (l ++ b ∷ []) input)
 
 abbrev pub lines_of : List ℕ → List (List ℕ)
 lines_of input = lines_from [] input

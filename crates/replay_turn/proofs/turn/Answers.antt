@@ -24,7 +24,7 @@ returns-then-n-eq0 c = let args = c.args in
     let read = to_z-of_z c.ranges.got in
     let sign = sym (ap (λ (z : ℤ). lt_z z (pos 0)) read) ∙ c.if-got-lt0.false in
     let size : length args.chunk.now ≡ 1024 = search rules in
-    let count = c.count-n.ensures.1 ∙ ap (λ (z : ℤ). clamp_len z (length args.chunk.now)) read in
+    let count = c.count-n.ensures.value ∙ ap (λ (z : ℤ). clamp_len z (length args.chunk.now)) read in
     let fed = c.finish-fed.ensures in
     rw (trace_ended args.chunk.now size args.got sign count c.if-n-eq0.true) (fed.0, fed.1, refl, refl)
 
@@ -34,7 +34,7 @@ returns c = let args = c.args in
     let read = to_z-of_z c.ranges.got in
     let sign = sym (ap (λ (z : ℤ). lt_z z (pos 0)) read) ∙ c.if-got-lt0.false in
     let size : length args.chunk.now ≡ 1024 = search rules in
-    let count = c.count-n.ensures.1 ∙ ap (λ (z : ℤ). clamp_len z (length args.chunk.now)) read in
+    let count = c.count-n.ensures.value ∙ ap (λ (z : ℤ). clamp_len z (length args.chunk.now)) read in
     let fed = c.feed-fed.ensures in
     let came = bytes_came args.chunk.now size args.got sign count c.if-n-eq0.false c.front-part.ensures in
     rw (came.is, sym came.fed) (fed.0, fed.1, refl, refl)

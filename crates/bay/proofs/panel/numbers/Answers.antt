@@ -1,2 +1,0 @@
--- `bay::panel::numbers` is safe and ends. Assumes nothing.
-use Rattle.bay.proofs.panel.numbers.Goals as goal

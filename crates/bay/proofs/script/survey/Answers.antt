@@ -1,2 +1,0 @@
--- `bay::script::survey` is safe and ends. Assumes nothing.
-use Rattle.bay.proofs.script.survey.Goals as goal
