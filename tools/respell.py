@@ -6,7 +6,7 @@ usage: python3 tools/respell.py        at the top of the repository, once, after
 tools/respell.tsv has a row for each name: the old one, the new one and, where the name means something else elsewhere, the
 files or folders in which alone it turns. A name turns as a whole word: in an .antt file everywhere but in a comment's plain
 words, in an .rt file in clauses and in 'ghost use', in a must-fail edit in the two texts, in a page between backticks. A name
-of the form that Rattle makes (behind 'tie.', 'goal.', or a step of 'c') is left to what moves the proofs.
+with the ending _lem is not written behind 'tie.', 'goal.' or a step of 'c', where Rattle has made the name. A second run would turn some names twice.
 """
 
 import glob
