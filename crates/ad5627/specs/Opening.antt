@@ -2,23 +2,15 @@
 use Rattle.bus.specs.declared.Eight.{Eight}
 use Rattle.bus.specs.declared.Transfer.TheVariants.{Write3}
 use Rattle.bus.specs.Run.{Run, done, mapped, try}
-use Rattle.std.specs.Prelude.{ℕ}
-use Rattle.gate.specs.Gate as G
-use Rattle.ad5627.specs.declared.Opening.{Opening}
-use Rattle.ad5627.specs.declared.Opening.TheVariants.{Ready, Bus}
-use Rattle.ad5627.specs.declared.OpeningAnswer.{OpeningAnswer}
-use Rattle.ad5627.specs.declared.OpeningAnswer.TheVariants.{Ran, Refused}
+use Rattle.std.specs.Prelude.{Result, Ok, Err}
+use Rattle.bus.specs.declared.Failed.{Failed}
+use Rattle.gate.specs.declared.Bar.{Bar}
+use Rattle.bus.specs.Rows.{no_answer}
 
 -- two writes to the address 0x0E, a reset and then the internal reference; the first that fails ends it
-unfoldable pub opening : Run Opening
-opening = try (Write3 0x0E 0x2F 0x00 0x00) Bus (λ (d : Eight). try (Write3 0x0E 0x3F 0x00 0x01) Bus (λ (e : Eight). done Ready))
+unfoldable pub opening : Run (Result (Unit {0}) Failed)
+opening = try (Write3 0x0E 0x2F 0x00 0x00) (Err no_answer) (λ (d : Eight). try (Write3 0x0E 0x3F 0x00 0x01) (Err no_answer) (λ (e : Eight). done (Ok tt)))
 
 -- called by itself
-unfoldable pub own_opening : Run OpeningAnswer
-own_opening = mapped Ran opening
-
--- document 01's number of each answer
-abbrev pub opening_number : OpeningAnswer → ℕ
-opening_number (Ran Ready) = 0
-opening_number (Ran Bus) = 12
-opening_number (Refused bar) = G.number_of bar
+unfoldable pub own_opening : Run (Result (Result (Unit {0}) Failed) Bar)
+own_opening = mapped Ok opening

@@ -1,17 +1,14 @@
 // ad5627: a converter of two outputs, written over the bus.
 #![tactic(auto)]
 
-ghost use Rattle.std.specs.Prelude.{◌≤◌, ◌≡◌};
-ghost use Rattle.bus.specs.Run.{Does, Room};
+ghost use Rattle.std.specs.Prelude.{◌≤◌, ◌≡◌, ◌*◌, ◌/◌, ◌%◌};
+ghost use Rattle.bus.specs.Run.{Runs, HasRoom};
 ghost use Rattle.gate.specs.Enter.{Enters};
-ghost use Rattle.ad5627.specs.Opening.{opening, own_opening, opening_number};
-ghost use Rattle.ad5627.specs.Voltage.{dac_byte, write_code, set_voltage, own_voltage, number_of};
-ghost use Rattle.ad5627.specs.declared.Answer.TheVariants.{Refused};
-ghost use Rattle.ad5627.specs.declared.OpeningAnswer.TheVariants.{Refused as OpeningRefused};
+ghost use Rattle.ad5627.specs.Opening.{opening, own_opening};
+ghost use Rattle.ad5627.specs.Voltage.{dac_byte, write_code, set_voltage, own_voltage};
 
-use bus::{Cursor, Got, Transfer};
-use conversions::Conversion;
-use gate::{Bar, Gate};
+use bus::{Bus, Error, Failed, Transfer};
+use gate::Told;
 
 // With the address pin not connected.
 const ADDRESS: u8 = 0x0E;
@@ -22,35 +19,6 @@ pub enum Dac {
     A,
     B,
     Both,
-}
-
-// What the opening answers.
-#[derive(Clone, Copy)]
-pub enum Opening {
-    Ready,
-    Bus,
-}
-
-// What the opening answers, and where the next row goes.
-#[derive(Clone, Copy)]
-pub struct Opened {
-    pub opening: Opening,
-    pub next: Cursor,
-}
-
-// What programming answers: the volts that the code sent stands for, a refusal for range, or a bus failure.
-#[derive(Clone, Copy)]
-pub enum Output {
-    Volts(f32),
-    Range,
-    Bus,
-}
-
-// What programming answers, and where the next row goes.
-#[derive(Clone, Copy)]
-pub struct Programmed {
-    pub output: Output,
-    pub next: Cursor,
 }
 
 // The first byte of a write: the output's bits, below those of the command, which are 0.
@@ -65,9 +33,10 @@ fn dac_byte(dac: Dac) -> u8
 }
 
 // Resets both outputs and powers the internal reference up, for callers that have made sure of the room.
-pub fn default_at(log: &mut [u8], replies: &[u8], at: Cursor) -> Opened
-    requires { Room at 2 2 log.old replies.now }
-    ensures { Does opening replies.now log.old at 2 2 log.new result.next result.opening }
+pub fn default_at(bus: &mut Bus) -> Result<(), Failed>
+    requires { HasRoom bus.old 2 2 }
+    ensures lent { bus.new.log.ghost_name ≡ bus.old.log.ghost_name }
+    ensures run { Runs opening bus.old 2 2 bus.new result }
 {
     let reset = Transfer::Write3 {
         address: ADDRESS,
@@ -81,119 +50,67 @@ pub fn default_at(log: &mut [u8], replies: &[u8], at: Cursor) -> Opened
         second: 0x00,
         third: 0x01,
     };
-    let taken = bus::run_transfer(log, replies, at, reset);
-    let got = taken.got;
-    let next = taken.next;
-    let Got::Acked(_) = got else {
-        let opening = Opening::Bus;
-        return Opened { opening, next };
-    };
-    let last = bus::run_transfer(log, replies, next, reference);
-    let told = last.got;
-    let end = last.next;
-    let Got::Acked(_) = told else {
-        let opening = Opening::Bus;
-        return Opened { opening, next: end };
-    };
-    let opening = Opening::Ready;
-    Opened { opening, next: end }
+    bus.transfer(reset)?;
+    bus.transfer(reference)?;
+    Ok(())
 }
 
-// Sends a code to an output or both, for callers that have made sure of the room and have a code of
-// twelve bits.
-pub fn set_code_at(log: &mut [u8], replies: &[u8], at: Cursor, code: u16, dac: Dac) -> Programmed
-    requires { Room at 1 1 log.old replies.now × (code ≤ 4095) }
-    ensures { Does (write_code dac code) replies.now log.old at 1 1 log.new result.next result.output }
+// What is written to an output for a code: its twelve bits stand highest in the sixteen, the high byte first.
+fn write_of(dac: Dac, code: u16) -> Transfer
+    requires { code ≤ 4095 }
+    ensures { result ≡ Transfer.Write3 0x0E (dac_byte dac) (16 * code / 256) (16 * code % 256) }
 {
-    let first = dac_byte(dac);
-    // The twelve bits of the code stand highest in the sixteen.
     let data = 16 * code;
-    let high = (data / 256) as u8;
-    let low = (data % 256) as u8;
-    let write = Transfer::Write3 {
+    let [high, low] = data.to_be_bytes();
+    Transfer::Write3 {
         address: ADDRESS,
-        first,
+        first: dac_byte(dac),
         second: high,
         third: low,
-    };
-    let taken = bus::run_transfer(log, replies, at, write);
-    let got = taken.got;
-    let next = taken.next;
-    let Got::Acked(_) = got else {
-        let output = Output::Bus;
-        return Programmed { output, next };
-    };
-    let volts = conversions::volts_of(2.5, code);
-    let output = Output::Volts(volts);
-    Programmed { output, next }
-}
-
-// Programs an output or both, for callers that have made sure of the room.
-pub fn set_voltage_at(
-    log: &mut [u8],
-    replies: &[u8],
-    at: Cursor,
-    voltage: f32,
-    dac: Dac,
-) -> Programmed
-    requires { Room at 1 1 log.old replies.now }
-    ensures { Does (set_voltage voltage dac) replies.now log.old at 1 1 log.new result.next result.output }
-{
-    let conversion = conversions::ad5627_code(voltage);
-    let Conversion::Code(code) = conversion else {
-        let output = Output::Range;
-        return Programmed { output, next: at };
-    };
-    set_code_at(log, replies, at, code, dac)
-}
-
-// What the opening answers when it is called by itself.
-#[derive(Clone, Copy)]
-pub enum OpeningAnswer {
-    Ran(Opening),
-    Refused(Bar),
-}
-
-#[derive(Clone, Copy)]
-pub struct OpeningTold {
-    pub answer: OpeningAnswer,
-    pub used: usize,
-}
-
-// The opening in the slot that is named. Nothing is asked of the caller.
-pub fn default(log: &mut [u8], used: usize, replies: &[u8], slot: u8) -> OpeningTold
-    ensures { Enters OpeningRefused own_opening slot used log.old replies.now log.new result.used result.answer }
-{
-    let gate = gate::gate_of(slot, used, log.len(), replies.len());
-    match gate {
-        Gate::Shut(bar) => {
-            let answer = OpeningAnswer::Refused(bar);
-            OpeningTold { answer, used }
-        }
-        Gate::Open(at) => {
-            let opened = default_at(log, replies, at);
-            let opening = opened.opening;
-            let next = opened.next;
-            let answer = OpeningAnswer::Ran(opening);
-            OpeningTold {
-                answer,
-                used: next.used,
-            }
-        }
     }
 }
 
-// What programming answers when it is called by itself.
-#[derive(Clone, Copy)]
-pub enum Answer {
-    Ran(Output),
-    Refused(Bar),
+// Sends a code to an output or both, for callers that have made sure of the room and have a code of
+// twelve bits. It answers the volts that the code stands for.
+pub fn set_code_at(bus: &mut Bus, code: u16, dac: Dac) -> Result<f32, Error>
+    requires { HasRoom bus.old 1 1 × (code ≤ 4095) }
+    ensures lent { bus.new.log.ghost_name ≡ bus.old.log.ghost_name }
+    ensures run { Runs (write_code dac code) bus.old 1 1 bus.new result }
+{
+    bus.transfer(write_of(dac, code))?;
+    Ok(conversions::volts_of(2.5, code))
 }
 
-#[derive(Clone, Copy)]
-pub struct Told {
-    pub answer: Answer,
-    pub used: usize,
+// Programs an output or both, for callers that have made sure of the room.
+pub fn set_voltage_at(bus: &mut Bus, voltage: f32, dac: Dac) -> Result<f32, Error>
+    requires { HasRoom bus.old 1 1 }
+    ensures lent { bus.new.log.ghost_name ≡ bus.old.log.ghost_name }
+    ensures run { Runs (set_voltage voltage dac) bus.old 1 1 bus.new result }
+{
+    let Some(code) = conversions::ad5627_code(voltage) else {
+        return Err(Error::Range);
+    };
+    set_code_at(bus, code, dac)
+}
+
+// The opening in the slot that is named. Nothing is asked of the caller. Both entries have their own match, as in mcp3221.
+pub fn default(log: &mut [u8], used: usize, replies: &[u8], slot: u8) -> Told<Result<(), Failed>>
+    ensures { Enters Err own_opening slot used log.old replies.now log.new result.used result.answer }
+{
+    match gate::gate_of(slot, used, log.len(), replies.len()) {
+        Ok(at) => {
+            let mut bus = Bus { log, replies, at };
+            let answer = default_at(&mut bus);
+            Told {
+                answer: Ok(answer),
+                used: bus.at.used,
+            }
+        }
+        Err(bar) => Told {
+            answer: Err(bar),
+            used,
+        },
+    }
 }
 
 // Programs an output, or both, of the slot that is named. Nothing is asked of the caller.
@@ -204,51 +121,21 @@ pub fn set_voltage(
     slot: u8,
     voltage: f32,
     dac: Dac,
-) -> Told
-    ensures { Enters Refused (own_voltage voltage dac) slot used log.old replies.now log.new result.used result.answer }
+) -> Told<Result<f32, Error>>
+    ensures { Enters Err (own_voltage voltage dac) slot used log.old replies.now log.new result.used result.answer }
 {
-    let gate = gate::gate_of(slot, used, log.len(), replies.len());
-    match gate {
-        Gate::Shut(bar) => {
-            let answer = Answer::Refused(bar);
-            Told { answer, used }
-        }
-        Gate::Open(at) => {
-            let programmed = set_voltage_at(log, replies, at, voltage, dac);
-            let output = programmed.output;
-            let next = programmed.next;
-            let answer = Answer::Ran(output);
+    match gate::gate_of(slot, used, log.len(), replies.len()) {
+        Ok(at) => {
+            let mut bus = Bus { log, replies, at };
+            let programmed = set_voltage_at(&mut bus, voltage, dac);
             Told {
-                answer,
-                used: next.used,
+                answer: Ok(programmed),
+                used: bus.at.used,
             }
         }
-    }
-}
-
-// The number of an answer.
-pub fn number(answer: Answer) -> u8
-    ensures { result ≡ number_of answer }
-{
-    match answer {
-        Answer::Ran(output) => match output {
-            Output::Volts(_) => 0,
-            Output::Range => 11,
-            Output::Bus => 12,
+        Err(bar) => Told {
+            answer: Err(bar),
+            used,
         },
-        Answer::Refused(bar) => gate::number(bar),
-    }
-}
-
-// The number of an answer.
-pub fn opening_number(answer: OpeningAnswer) -> u8
-    ensures { result ≡ opening_number answer }
-{
-    match answer {
-        OpeningAnswer::Ran(opening) => match opening {
-            Opening::Ready => 0,
-            Opening::Bus => 12,
-        },
-        OpeningAnswer::Refused(bar) => gate::number(bar),
     }
 }

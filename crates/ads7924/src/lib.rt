@@ -3,12 +3,11 @@
 #![tactic(auto)]
 
 ghost use Rattle.std.specs.Prelude.{◌+◌, ◌*◌, ◌≤◌, ◌≡◌};
-ghost use Rattle.bus.specs.Run.{transfer, Does, Room};
-ghost use Rattle.ads7924.specs.Layout.{number, from, bit, enabling};
-ghost use Rattle.ads7924.specs.Calls.{write, read, opening, not_opened, sample, volts, reading, readings, get_voltage, get_voltages, alarm, clear_alarm, arm, not_armed, set_thresholds};
+ghost use Rattle.bus.specs.Run.{transfer, Runs, HasRoom};
+ghost use Rattle.ads7924.specs.Layout.{number, from, bit, enabling, alarmed};
+ghost use Rattle.ads7924.specs.Calls.{write, read, opening, sample, volts, get_voltage, get_voltages, clear_alarm, arm, set_thresholds};
 
-use bus::{Cursor, Got, Note, Taken, Transfer};
-use conversions::Limits;
+use bus::{Bus, Eight, Error, Failed, Note, Transfer};
 
 const ADDRESS: u8 = 0x49;
 
@@ -47,32 +46,7 @@ pub enum Channel {
     Three,
 }
 
-// What the opening answers, and where the next row goes.
-#[derive(Clone, Copy)]
-pub enum Opening {
-    Ready,
-    Bus,
-}
-
-#[derive(Clone, Copy)]
-pub struct Opened {
-    pub opening: Opening,
-    pub next: Cursor,
-}
-
-// What a measurement answers: of one channel, or of all four.
-#[derive(Clone, Copy)]
-pub enum Reading {
-    Volts(f32),
-    Bus,
-}
-
-#[derive(Clone, Copy)]
-pub struct Measured {
-    pub reading: Reading,
-    pub next: Cursor,
-}
-
+// The voltages of the four channels.
 #[derive(Clone, Copy)]
 pub struct Four {
     pub v0: f32,
@@ -81,341 +55,156 @@ pub struct Four {
     pub v3: f32,
 }
 
-#[derive(Clone, Copy)]
-pub enum Readings {
-    Volts(Four),
-    Bus,
-}
-
-#[derive(Clone, Copy)]
-pub struct Scanned {
-    pub readings: Readings,
-    pub next: Cursor,
-}
-
-// What clearing the alarm answers: bit k is set where channel k raised it.
-#[derive(Clone, Copy)]
-pub enum Alarm {
-    Mask(u8),
-    Bus,
-}
-
-#[derive(Clone, Copy)]
-pub struct Cleared {
-    pub alarm: Alarm,
-    pub next: Cursor,
-}
-
-// What setting a channel's limits answers.
-#[derive(Clone, Copy)]
-pub enum Armed {
-    Set,
-    Bounds,
-    Bus,
-}
-
-#[derive(Clone, Copy)]
-pub struct Limited {
-    pub armed: Armed,
-    pub next: Cursor,
-}
-
-fn number_of(channel: Channel) -> u8
-    ensures { (result ≡ number channel) × (result ≤ 3) }
-{
-    match channel {
-        Channel::Zero => 0,
-        Channel::One => 1,
-        Channel::Two => 2,
-        Channel::Three => 3,
-    }
-}
-
 // The command for a channel's two registers, where `first` is channel 0's first.
 fn command_of(first: u8, channel: Channel) -> u8
     requires { first ≤ 0x0A }
     ensures { result ≡ from (first + 2 * number channel) }
 {
-    let number = number_of(channel);
-    INC + (first + 2 * number)
+    INC + (first + 2 * (channel as u8))
 }
 
-fn write_register(log: &mut [u8], replies: &[u8], at: Cursor, register: u8, value: u8) -> Taken
-    requires { Room at 1 1 log.old replies.now }
-    ensures { Does (transfer (write register value)) replies.now log.old at 1 1 log.new result.next result.got }
+fn write_register(bus: &mut Bus, register: u8, value: u8) -> Result<Eight, Failed>
+    requires { HasRoom bus.old 1 1 }
+    ensures lent { bus.new.log.ghost_name ≡ bus.old.log.ghost_name }
+    ensures run { Runs (transfer (write register value)) bus.old 1 1 bus.new result }
 {
-    let what = Transfer::Write2 {
+    bus.transfer(Transfer::Write2 {
         address: ADDRESS,
         first: register,
         second: value,
-    };
-    bus::run_transfer(log, replies, at, what)
+    })
 }
 
-fn read_registers(log: &mut [u8], replies: &[u8], at: Cursor, command: u8, count: u8) -> Taken
-    requires { Room at 1 1 log.old replies.now }
-    ensures { Does (transfer (read command count)) replies.now log.old at 1 1 log.new result.next result.got }
+fn read_registers(bus: &mut Bus, command: u8, count: u8) -> Result<Eight, Failed>
+    requires { HasRoom bus.old 1 1 }
+    ensures lent { bus.new.log.ghost_name ≡ bus.old.log.ghost_name }
+    ensures run { Runs (transfer (read command count)) bus.old 1 1 bus.new result }
 {
-    let what = Transfer::WriteRead {
+    bus.transfer(Transfer::WriteRead {
         address: ADDRESS,
         command,
         count,
-    };
-    bus::run_transfer(log, replies, at, what)
-}
-
-fn not_opened(next: Cursor) -> Opened
-    ensures { result ≡ not_opened next }
-{
-    let opening = Opening::Bus;
-    Opened { opening, next }
+    })
 }
 
 // Resets the chip, and has it scan with an alarm as soon as a limit is passed.
-pub fn default_at(log: &mut [u8], replies: &[u8], at: Cursor) -> Opened
-    requires { Room at 5 4 log.old replies.now }
-    ensures { Does opening replies.now log.old at 5 4 log.new result.next result.opening }
+pub fn default_at(bus: &mut Bus) -> Result<(), Failed>
+    requires { HasRoom bus.old 5 4 }
+    ensures lent { bus.new.log.ghost_name ≡ bus.old.log.ghost_name }
+    ensures run { Runs opening bus.old 5 4 bus.new result }
 {
-    let reset = write_register(log, replies, at, RESET, RESET_CODE);
-    let got = reset.got;
-    let next = reset.next;
-    let Got::Acked(_) = got else {
-        return not_opened(next);
-    };
+    write_register(bus, RESET, RESET_CODE)?;
     // The chip is given the time that a reset takes.
-    let wait = Note::Wait(500);
-    let next = bus::add_note(log, next, wait);
-    let awake = write_register(log, replies, next, MODE_CONTROL, AWAKE);
-    let got = awake.got;
-    let next = awake.next;
-    let Got::Acked(_) = got else {
-        return not_opened(next);
-    };
-    let config = write_register(log, replies, next, INTERRUPT_CONFIG, ALARM_AFTER_ONE);
-    let got = config.got;
-    let next = config.next;
-    let Got::Acked(_) = got else {
-        return not_opened(next);
-    };
-    let scanning = write_register(log, replies, next, MODE_CONTROL, SCANNING);
-    let got = scanning.got;
-    let next = scanning.next;
-    let Got::Acked(_) = got else {
-        return not_opened(next);
-    };
-    let opening = Opening::Ready;
-    Opened { opening, next }
+    bus.note(Note::Wait(500));
+    write_register(bus, MODE_CONTROL, AWAKE)?;
+    write_register(bus, INTERRUPT_CONFIG, ALARM_AFTER_ONE)?;
+    write_register(bus, MODE_CONTROL, SCANNING)?;
+    Ok(())
 }
 
 // Reads some registers while the chip is idle, and has it scan again.
-fn sample_at(log: &mut [u8], replies: &[u8], at: Cursor, command: u8, count: u8) -> Taken
-    requires { Room at 4 4 log.old replies.now }
-    ensures { Does (sample command count) replies.now log.old at 4 4 log.new result.next result.got }
+fn sample_at(bus: &mut Bus, command: u8, count: u8) -> Result<Eight, Failed>
+    requires { HasRoom bus.old 4 4 }
+    ensures lent { bus.new.log.ghost_name ≡ bus.old.log.ghost_name }
+    ensures run { Runs (sample command count) bus.old 4 4 bus.new result }
 {
-    let idle = write_register(log, replies, at, MODE_CONTROL, IDLE);
-    let got = idle.got;
-    let next = idle.next;
-    let Got::Acked(_) = got else {
-        return idle;
-    };
-    let read = read_registers(log, replies, next, command, count);
-    let got = read.got;
-    let next = read.next;
-    let Got::Acked(data) = got else {
-        return read;
-    };
-    let woken = write_register(log, replies, next, MODE_CONTROL, AWAKE);
-    let got = woken.got;
-    let next = woken.next;
-    let Got::Acked(_) = got else {
-        return woken;
-    };
-    let resumed = write_register(log, replies, next, MODE_CONTROL, SCANNING);
-    let got = resumed.got;
-    let next = resumed.next;
-    let Got::Acked(_) = got else {
-        return resumed;
-    };
-    let got = Got::Acked(data);
-    Taken { got, next }
+    write_register(bus, MODE_CONTROL, IDLE)?;
+    let data = read_registers(bus, command, count)?;
+    write_register(bus, MODE_CONTROL, AWAKE)?; // out of idle
+    write_register(bus, MODE_CONTROL, SCANNING)?; // as the opening left it
+    Ok(data)
 }
 
 fn volts_of(upper: u8, lower: u8) -> f32
     ensures { result ≡ volts upper lower }
 {
-    let high = upper as u16;
-    let low = lower as u16;
-    let code = (256 * high + low) / 16;
-    conversions::ads7924_volts(code)
-}
-
-fn reading_of(got: Got) -> Reading
-    ensures { result ≡ reading got }
-{
-    match got {
-        Got::Acked(data) => {
-            let volts = volts_of(data.b0, data.b1);
-            Reading::Volts(volts)
-        }
-        Got::Failed => Reading::Bus,
-    }
-}
-
-fn readings_of(got: Got) -> Readings
-    ensures { result ≡ readings got }
-{
-    match got {
-        Got::Acked(data) => {
-            let four = Four {
-                v0: volts_of(data.b0, data.b1),
-                v1: volts_of(data.b2, data.b3),
-                v2: volts_of(data.b4, data.b5),
-                v3: volts_of(data.b6, data.b7),
-            };
-            Readings::Volts(four)
-        }
-        Got::Failed => Readings::Bus,
-    }
+    conversions::ads7924_volts(u16::from_be_bytes([upper, lower]) / 16)
 }
 
 // One channel's voltage.
-pub fn get_voltage_at(log: &mut [u8], replies: &[u8], at: Cursor, channel: Channel) -> Measured
-    requires { Room at 4 4 log.old replies.now }
-    ensures { Does (get_voltage channel) replies.now log.old at 4 4 log.new result.next result.reading }
+pub fn get_voltage_at(bus: &mut Bus, channel: Channel) -> Result<f32, Failed>
+    requires { HasRoom bus.old 4 4 }
+    ensures lent { bus.new.log.ghost_name ≡ bus.old.log.ghost_name }
+    ensures run { Runs (get_voltage channel) bus.old 4 4 bus.new result }
 {
-    let command = command_of(WORDS, channel);
-    let sample = sample_at(log, replies, at, command, 2);
-    let got = sample.got;
-    let next = sample.next;
-    let reading = reading_of(got);
-    Measured { reading, next }
+    let data = sample_at(bus, command_of(WORDS, channel), 2)?;
+    Ok(volts_of(data.b0, data.b1))
 }
 
 // All four voltages.
-pub fn get_voltages_at(log: &mut [u8], replies: &[u8], at: Cursor) -> Scanned
-    requires { Room at 4 4 log.old replies.now }
-    ensures { Does get_voltages replies.now log.old at 4 4 log.new result.next result.readings }
+pub fn get_voltages_at(bus: &mut Bus) -> Result<Four, Failed>
+    requires { HasRoom bus.old 4 4 }
+    ensures lent { bus.new.log.ghost_name ≡ bus.old.log.ghost_name }
+    ensures run { Runs get_voltages bus.old 4 4 bus.new result }
 {
-    let sample = sample_at(log, replies, at, INC + WORDS, 8);
-    let got = sample.got;
-    let next = sample.next;
-    let readings = readings_of(got);
-    Scanned { readings, next }
+    let data = sample_at(bus, INC + WORDS, 8)?;
+    Ok(Four {
+        v0: volts_of(data.b0, data.b1),
+        v1: volts_of(data.b2, data.b3),
+        v2: volts_of(data.b4, data.b5),
+        v3: volts_of(data.b6, data.b7),
+    })
 }
 
 // The channels that may raise the alarm and have passed a limit.
-fn alarm_of(got: Got) -> Alarm
-    ensures { result ≡ alarm got }
+fn alarmed(byte: u8) -> u8
+    ensures { result ≡ alarmed byte }
 {
-    match got {
-        Got::Acked(data) => {
-            let enabled = data.b0 % 16;
-            let passed = data.b0 / 16;
-            let mask = enabled & passed;
-            Alarm::Mask(mask)
-        }
-        Got::Failed => Alarm::Bus,
-    }
+    let enabled = byte % 16;
+    let passed = byte / 16;
+    enabled & passed
 }
 
-// Clears the alarm, which reading its register does.
-pub fn clear_alarm_at(log: &mut [u8], replies: &[u8], at: Cursor) -> Cleared
-    requires { Room at 1 1 log.old replies.now }
-    ensures { Does clear_alarm replies.now log.old at 1 1 log.new result.next result.alarm }
+// Clears the alarm, which reading its register does. Bit k of the answer is set where channel k raised it.
+pub fn clear_alarm_at(bus: &mut Bus) -> Result<u8, Failed>
+    requires { HasRoom bus.old 1 1 }
+    ensures lent { bus.new.log.ghost_name ≡ bus.old.log.ghost_name }
+    ensures run { Runs clear_alarm bus.old 1 1 bus.new result }
 {
-    let read = read_registers(log, replies, at, INTERRUPT_CONTROL, 1);
-    let got = read.got;
-    let next = read.next;
-    let alarm = alarm_of(got);
-    Cleared { alarm, next }
+    let alarm = read_registers(bus, INTERRUPT_CONTROL, 1)?;
+    Ok(alarmed(alarm.b0))
 }
 
 fn bit_of(channel: Channel) -> u8
     ensures { result ≡ bit channel }
 {
-    match channel {
-        Channel::Zero => 0b0001,
-        Channel::One => 0b0010,
-        Channel::Two => 0b0100,
-        Channel::Three => 0b1000,
-    }
+    1 << (channel as u8)
 }
 
 // The interrupt control byte with a channel's alarm enabled.
+#[tactic(auto, using(crate::proofs::Laws::or_enables))]
 fn enable(channel: Channel, byte: u8) -> u8
     ensures { result ≡ enabling channel byte }
 {
-    let bit = bit_of(channel);
-    byte | bit
-}
-
-fn not_armed(next: Cursor) -> Limited
-    ensures { result ≡ not_armed next }
-{
-    let armed = Armed::Bus;
-    Limited { armed, next }
+    byte | bit_of(channel)
 }
 
 // Sets a channel's limits, and enables its alarm.
-fn arm_at(
-    log: &mut [u8],
-    replies: &[u8],
-    at: Cursor,
-    channel: Channel,
-    upper: u8,
-    lower: u8,
-) -> Limited
-    requires { Room at 3 3 log.old replies.now }
-    ensures { Does (arm channel upper lower) replies.now log.old at 3 3 log.new result.next result.armed }
+fn arm_at(bus: &mut Bus, channel: Channel, upper: u8, lower: u8) -> Result<(), Error>
+    requires { HasRoom bus.old 3 3 }
+    ensures lent { bus.new.log.ghost_name ≡ bus.old.log.ghost_name }
+    ensures run { Runs (arm channel upper lower) bus.old 3 3 bus.new result }
 {
-    let command = command_of(LIMITS, channel);
-    let limits = Transfer::Write3 {
+    bus.transfer(Transfer::Write3 {
         address: ADDRESS,
-        first: command,
+        first: command_of(LIMITS, channel),
         second: upper,
         third: lower,
-    };
-    let limited = bus::run_transfer(log, replies, at, limits);
-    let got = limited.got;
-    let next = limited.next;
-    let Got::Acked(_) = got else {
-        return not_armed(next);
-    };
-    let read = read_registers(log, replies, next, INTERRUPT_CONTROL, 1);
-    let got = read.got;
-    let next = read.next;
-    let Got::Acked(data) = got else {
-        return not_armed(next);
-    };
-    let byte = enable(channel, data.b0);
-    let enabled = write_register(log, replies, next, INTERRUPT_CONTROL, byte);
-    let got = enabled.got;
-    let next = enabled.next;
-    let Got::Acked(_) = got else {
-        return not_armed(next);
-    };
-    let armed = Armed::Set;
-    Limited { armed, next }
+    })?;
+    let data = read_registers(bus, INTERRUPT_CONTROL, 1)?;
+    write_register(bus, INTERRUPT_CONTROL, enable(channel, data.b0))?;
+    Ok(())
 }
 
 // Sets a channel's limits in volts. Nothing is sent where one is out of bounds.
-pub fn set_thresholds_at(
-    log: &mut [u8],
-    replies: &[u8],
-    at: Cursor,
-    channel: Channel,
-    low: f32,
-    high: f32,
-) -> Limited
-    requires { Room at 3 3 log.old replies.now }
-    ensures { Does (set_thresholds channel low high) replies.now log.old at 3 3 log.new result.next result.armed }
+#[tactic(auto, unfolding(crate::specs::Calls::set_thresholds))]
+pub fn set_thresholds_at(bus: &mut Bus, channel: Channel, low: f32, high: f32) -> Result<(), Error>
+    requires { HasRoom bus.old 3 3 }
+    ensures lent { bus.new.log.ghost_name ≡ bus.old.log.ghost_name }
+    ensures run { Runs (set_thresholds channel low high) bus.old 3 3 bus.new result }
 {
-    let limits = conversions::ads7924_codes(low, high);
-    let Limits::Codes { low, high } = limits else {
-        let armed = Armed::Bounds;
-        return Limited { armed, next: at };
-    };
-    let upper = (high / 16) as u8;
-    let lower = (low / 16) as u8;
-    arm_at(log, replies, at, channel, upper, lower)
+    let limits = conversions::ads7924_codes(low, high).ok_or(Error::Range)?;
+    let upper = (limits.high / 16) as u8;
+    let lower = (limits.low / 16) as u8;
+    arm_at(bus, channel, upper, lower)
 }

@@ -1,3 +1,2 @@
--- The number of each answer of the driver called by itself, and that it is document 01's.
-pub mod Numbers
+-- That the number of each answer of the driver called by itself is document 01's.
 pub mod Listed

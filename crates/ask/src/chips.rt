@@ -1,61 +1,63 @@
-// The converters of one or two lines, each asked by itself in slot 0, with an unused log that the caller lends.
-use crate::result::{Data, Outcome};
+// The chips, each asked by itself in slot 0, with an unused log that the caller lends.
+use crate::result::{Data, Outcome, outcome_of};
 use ad5627::Dac;
-
-fn reading(answer: mcp3221::Answer) -> Data {
-    if let mcp3221::Answer::Ran(reading) = answer {
-        if let mcp3221::Reading::Volts(volts) = reading {
-            return Data::Float(volts);
-        }
-    }
-    Data::Nothing
-}
+use ads7924::Channel;
 
 pub fn mcp3221(log: &mut [u8], replies: &[u8; 135]) -> Outcome {
-    let told = mcp3221::get_voltage(log, 0, replies, 0);
-    let answer = told.answer;
-    let number = mcp3221::number(answer);
-    let data = reading(answer);
-    Outcome::Told(number, data, told.used)
-}
-
-fn dac7571_output(answer: dac7571::Answer) -> Data {
-    if let dac7571::Answer::Ran(output) = answer {
-        if let dac7571::Output::Volts(volts) = output {
-            return Data::Float(volts);
-        }
-    }
-    Data::Nothing
+    outcome_of(mcp3221::get_voltage(log, 0, replies, 0), |volts| {
+        Some(Data::Float(volts))
+    })
 }
 
 pub fn dac7571(volts: f32, log: &mut [u8], replies: &[u8; 135]) -> Outcome {
-    let told = dac7571::set_voltage(log, 0, replies, 0, volts);
-    let answer = told.answer;
-    let number = dac7571::number(answer);
-    let data = dac7571_output(answer);
-    Outcome::Told(number, data, told.used)
+    outcome_of(dac7571::set_voltage(log, 0, replies, 0, volts), |volts| {
+        Some(Data::Float(volts))
+    })
 }
 
 pub fn ad5627_open(log: &mut [u8], replies: &[u8; 135]) -> Outcome {
-    let told = ad5627::default(log, 0, replies, 0);
-    let answer = told.answer;
-    let number = ad5627::opening_number(answer);
-    Outcome::Told(number, Data::Nothing, told.used)
-}
-
-fn ad5627_output(answer: ad5627::Answer) -> Data {
-    if let ad5627::Answer::Ran(output) = answer {
-        if let ad5627::Output::Volts(volts) = output {
-            return Data::Float(volts);
-        }
-    }
-    Data::Nothing
+    outcome_of(ad5627::default(log, 0, replies, 0), |_| None)
 }
 
 pub fn ad5627(dac: Dac, volts: f32, log: &mut [u8], replies: &[u8; 135]) -> Outcome {
-    let told = ad5627::set_voltage(log, 0, replies, 0, volts, dac);
-    let answer = told.answer;
-    let number = ad5627::number(answer);
-    let data = ad5627_output(answer);
-    Outcome::Told(number, data, told.used)
+    outcome_of(
+        ad5627::set_voltage(log, 0, replies, 0, volts, dac),
+        |volts| Some(Data::Float(volts)),
+    )
+}
+
+pub fn ads7924_open(log: &mut [u8], replies: &[u8; 135]) -> Outcome {
+    outcome_of(ads7924_entry::default(log, 0, replies, 0), |_| None)
+}
+
+pub fn voltage(channel: Channel, log: &mut [u8], replies: &[u8; 135]) -> Outcome {
+    outcome_of(
+        ads7924_entry::get_voltage(log, 0, replies, 0, channel),
+        |volts| Some(Data::Float(volts)),
+    )
+}
+
+pub fn voltages(log: &mut [u8], replies: &[u8; 135]) -> Outcome {
+    outcome_of(ads7924_entry::get_voltages(log, 0, replies, 0), |volts| {
+        Some(Data::Floats(volts))
+    })
+}
+
+pub fn alarm(log: &mut [u8], replies: &[u8; 135]) -> Outcome {
+    outcome_of(ads7924_entry::clear_alarm(log, 0, replies, 0), |mask| {
+        Some(Data::Byte(mask))
+    })
+}
+
+pub fn thresholds(
+    channel: Channel,
+    low: f32,
+    high: f32,
+    log: &mut [u8],
+    replies: &[u8; 135],
+) -> Outcome {
+    outcome_of(
+        ads7924_entry::set_thresholds(log, 0, replies, 0, channel, low, high),
+        |_| None,
+    )
 }

@@ -1,65 +1,74 @@
-// What came of a question, and how it is written: `result,data,rows`, or `bad`.
+// What came of a question, and how it is written: `result,data,rows`.
 use ads7924::Four;
+use gate::{Numbered, Told};
+use text::Writer;
 
 // The data that an answer has.
 #[derive(Clone, Copy)]
 pub enum Data {
-    Nothing,
     Float(f32),
     Floats(Four),
     Byte(u8),
 }
 
-// The number of the answer, its data, and how many rows of the log it used; or no question was asked.
+// The number of the answer, its data, and how many rows of the log it used.
 #[derive(Clone, Copy)]
-pub enum Outcome {
-    Told(u8, Data, usize),
-    Bad,
+pub struct Outcome {
+    pub number: u8,
+    pub data: Option<Data>,
+    pub used: usize,
 }
 
-// Where the result of an answer with this number stands in the list of results. A driver that is asked by itself
-// refuses nothing here.
-fn place_of(number: u8) -> usize {
-    match number {
-        0 => 0,
-        11 => 1,
-        12 => 2,
-        _ => 3,
+// What comes of a driver that is asked by itself: the data are those of what was done.
+pub fn outcome_of<T: Copy, E: Numbered + Copy, F: FnOnce(T) -> Option<Data>>(
+    told: Told<Result<T, E>>,
+    shown: F,
+) -> Outcome
+    requires { F.IsAlwaysCallable shown }
+{
+    Outcome {
+        number: gate::number(told.answer),
+        data: match told.answer {
+            Ok(Ok(done)) => shown(done),
+            _ => None,
+        },
+        used: told.used,
     }
 }
 
-fn put_result(out: &mut [u8], number: u8) -> usize {
-    let text = crate::words::word(b"done, range, bus, refused,", place_of(number));
-    pen::bytes(out, 0, text)
+// The result of an answer with this number. A driver that is asked by itself refuses nothing here.
+fn result_of(number: u8) -> &'static [u8] {
+    match number {
+        0 => b"done,",
+        11 => b"range,",
+        12 => b"bus,",
+        _ => b"refused,",
+    }
 }
 
-fn put_four(out: &mut [u8], at: usize, volts: Four) -> usize {
-    let four = [volts.v0, volts.v1, volts.v2, volts.v3];
-    pen::floats(out, at, &four)
+fn put_four(writer: &mut Writer, volts: Four) {
+    pen::floats(writer, &[volts.v0, volts.v1, volts.v2, volts.v3]);
 }
 
-fn put_data(out: &mut [u8], at: usize, data: Data) -> usize {
+fn put_data(writer: &mut Writer, data: Option<Data>) {
     match data {
-        Data::Nothing => at,
-        Data::Float(x) => pen::float(out, at, x),
-        Data::Floats(volts) => put_four(out, at, volts),
-        Data::Byte(b) => pen::pair(out, at, b),
+        Some(Data::Float(x)) => pen::float(writer, x),
+        Some(Data::Floats(volts)) => put_four(writer, volts),
+        Some(Data::Byte(b)) => pen::pair(writer, b),
+        None => (),
     }
 }
 
 // The rows, behind the data.
-fn put_rows(out: &mut [u8], at: usize, log: &[u8], used: usize) -> usize {
-    let past = pen::byte(out, at, b',');
-    let past = pen::rows(out, past, log, 0, used);
-    pen::byte(out, past, b'\n')
+fn put_rows(writer: &mut Writer, log: &[u8], used: usize) {
+    pen::byte(writer, b',');
+    pen::rows(writer, log, 0, used);
+    pen::byte(writer, b'\n');
 }
 
-// Puts an outcome at the start of the buffer.
-pub fn put(out: &mut [u8], outcome: Outcome, log: &[u8]) -> usize {
-    let Outcome::Told(number, data, used) = outcome else {
-        return pen::bytes(out, 0, b"bad\n");
-    };
-    let past = put_result(out, number);
-    let past = put_data(out, past, data);
-    put_rows(out, past, log, used)
+// Writes an outcome.
+pub fn put(writer: &mut Writer, outcome: Outcome, log: &[u8]) {
+    pen::bytes(writer, result_of(outcome.number));
+    put_data(writer, outcome.data);
+    put_rows(writer, log, outcome.used);
 }

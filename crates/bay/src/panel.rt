@@ -1,14 +1,11 @@
 // How a slot and what a call tells are printed.
 use super::show;
 use rf_call::{Report, Slot};
+use text::Writer;
 
 fn flag(name: &[u8], level: bool) {
     show::text(name);
-    if level {
-        show::text(b"1");
-    } else {
-        show::text(b"0");
-    }
+    show::text(if level { b"1" } else { b"0" });
 }
 
 // What a call that is done has to tell.
@@ -31,9 +28,14 @@ pub fn report(r: Report) {
 // The longest name has 25 bytes.
 fn name(slot: Slot) {
     let mut name = *b",                          ";
-    let end = state_name::put_slot(&mut name, 2, slot);
-    if end <= 27 {
-        show::text(&name[0..end]);
+    let mut writer = Writer {
+        out: &mut name,
+        at: 2,
+    };
+    state_name::put_slot(&mut writer, slot);
+    let end = writer.at;
+    if let Some(written) = name.get(..end) {
+        show::text(written);
     }
 }
 
@@ -44,7 +46,7 @@ pub fn standing(slot: Slot) {
         Slot::Empty => (),
         Slot::Halted(cause) => {
             show::text(b", cause");
-            show::number(rf_call::cause_number(cause) as u64);
+            show::number(u64::from(rf_call::cause_number(cause)));
         }
         Slot::Channel(c) => {
             flag(b", power ", c.enable_power);
@@ -54,11 +56,9 @@ pub fn standing(slot: Slot) {
 }
 
 // A status's numbers, and the place past them.
-pub fn numbers(n: [f32; 8]) {
-    let mut i = 0;
+pub fn numbers(numbers: [f32; 8]) {
     show::text(b":");
-    while i < 8 {
-        show::float(n[i]);
-        i += 1;
+    for x in numbers {
+        show::float(x);
     }
 }

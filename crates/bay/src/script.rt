@@ -11,16 +11,14 @@ use super::desk::{Desk, Lent, Step};
 use super::{desk, given, panel, show};
 use slots::Rack;
 
+// What a digit counts, and 0 for any other sign.
 fn digit(sign: u8) -> u32
     ensures { result ≤ 9 }
 {
-    if sign < 48 {
-        return 0;
+    match sign {
+        b'0'..=b'9' => u32::from(sign - b'0'),
+        _ => 0,
     }
-    if 57 < sign {
-        return 0;
-    }
-    (sign - 48) as u32
 }
 
 // Three digits of a word.
@@ -36,38 +34,27 @@ fn number_at(word: &[u8], from: usize) -> u32
 
 // Prints what stands in each slot.
 fn survey(rack: Rack) {
-    let mut i = 0;
-    while i < 8 {
+    for slot in 0..8u8 {
         show::text(b"  slot");
-        show::number(i as u64);
-        panel::standing(slots::slot_at(rack, i));
+        show::number(u64::from(slot));
+        panel::standing(slots::slot_at(rack, slot));
         show::text(b"\n");
-        i += 1;
     }
 }
 
 // What is lent after a word that begins with `=`.
 fn arrange(lent: Lent, sign: u8, n: u32) -> Lent {
-    let mut out = lent;
-    if sign == b's' {
-        out.slot = (n % 256) as u8;
+    let mut lent = lent;
+    match sign {
+        b's' => lent.slot = (n % 256) as u8,
+        b'l' => lent.log = n as usize,
+        b'r' => lent.replies = n as usize,
+        b'n' => lent.numbers = n as usize,
+        b'u' => lent.used = n as usize,
+        b'm' => lent.used = usize::MAX,
+        _ => (),
     }
-    if sign == b'l' {
-        out.log = n as usize;
-    }
-    if sign == b'r' {
-        out.replies = n as usize;
-    }
-    if sign == b'n' {
-        out.numbers = n as usize;
-    }
-    if sign == b'u' {
-        out.used = n as usize;
-    }
-    if sign == b'm' {
-        out.used = 18446744073709551615;
-    }
-    out
+    lent
 }
 
 // Takes a word that begins with `=`.
@@ -83,14 +70,11 @@ fn change(rack: Rack, lent: Lent, sign: u8, n: u32) -> Lent {
 fn step_of(word: &[u8]) -> Step
     requires { 7 ≤ length word.now }
 {
-    let tick = number_at(word, 1);
-    let givens = given::givens(word[4], tick);
-    let settings = given::settings(word[6]);
     Step {
         call: word[0],
-        givens,
+        givens: given::givens(word[4], number_at(word, 1)),
         reply: word[5],
-        settings,
+        settings: given::settings(word[6]),
     }
 }
 
@@ -100,8 +84,7 @@ fn take(log: &mut [u8], desk: Desk, word: &[u8]) -> Desk {
         return desk;
     }
     show::text(word);
-    let rack = desk.rack;
-    let mut lent = desk.lent;
+    let Desk { rack, lent } = desk;
     if word[0] == b'=' {
         let n = number_at(word, 2);
         let lent = change(rack, lent, word[1], n);
@@ -109,15 +92,18 @@ fn take(log: &mut [u8], desk: Desk, word: &[u8]) -> Desk {
     }
     let step = step_of(word);
     let turn = desk::take(log, rack, lent, step);
-    let rack = turn.rack;
-    lent.used = turn.used;
-    Desk { rack, lent }
+    Desk {
+        rack: turn.rack,
+        lent: Lent {
+            used: turn.used,
+            ..lent
+        },
+    }
 }
 
 // Runs a script from an empty bay and slot 5; a sign stands after each of its words. A line of dots begins it.
 fn run(script: &[u8]) {
     let mut log = [show::FRESH; 4096];
-    let rack = slots::empty();
     let lent = Lent {
         slot: 5,
         used: 0,
@@ -125,28 +111,21 @@ fn run(script: &[u8]) {
         replies: 135,
         numbers: 8,
     };
-    let mut desk = Desk { rack, lent };
-    let words = script.len() / 8;
-    let mut i = 0;
+    let mut desk = Desk {
+        rack: slots::empty(),
+        lent,
+    };
     show::text(b"..\n");
-    while i < words {
-        let from = 8 * i;
-        let end = from + 7;
-        desk = take(&mut log, desk, &script[from..end]);
-        i += 1;
+    for word in script.chunks_exact(8) {
+        if let Some((_, word)) = word.split_last() {
+            desk = take(&mut log, desk, word);
+        }
     }
 }
 
 // Runs scripts, each of which is a line.
 pub fn each(scripts: &[u8]) {
-    let mut i = 0;
-    while i < scripts.len() {
-        let end = scan::find(scripts, i, scripts.len(), b'\n');
-        if scripts.len() <= end {
-            return;
-        }
-        let next = end + 1;
-        run(&scripts[i..next]);
-        i = next;
+    for script in scripts.split_inclusive(|b| *b == b'\n') {
+        run(script);
     }
 }

@@ -4,7 +4,7 @@ use Prim.Native.Nat.{ℕ, zero, suc, ◌*◌, ◌^◌, ◌<◌}
 use native.Mathlib.Nat.{mul-pos, zero-lt-suc, pow-suc}
 use mathlib.Core.Bool.{false}
 use mathlib.Core.List.{List, [], ◌∷◌}
-use lib.Ieee.{Float, binary32, round, of_bits}
+use lib.Ieee.{Float, round, of_bits}
 use Rattle.steps.specs.Steps.{unit}
 use Rattle.steps.specs.Rounding.{Rounded}
 use Rattle.steps.proofs.Rounding.{every_fraction}

@@ -1,6 +1,6 @@
 -- The starred cases of the bench sheet, one table under one statement: a line for each, its case number first, then what the definitions give. A driver's line has the number of its answer, 0 or 11 for a refused range, before the volts or the bytes sent.
 -- Volts stand as their pattern, beside that of the decimal which the sheet names. antt computes both sides.
-use Rattle.std.specs.Prelude.{◌≡◌, refl, ℕ, ◌-◌, true, false, List, [], ◌∷◌, ◌++◌, get_or, take, drop, Float}
+use Rattle.std.specs.Prelude.{◌≡◌, refl, ℕ, ◌-◌, true, false, List, [], ◌∷◌, ◌++◌, get_or, take, drop, Float, Option, None, Some, Result, Ok, Err}
 use Rattle.std.specs.Float.{nan, binary32}
 use Rattle.std.specs.Float.Ieee.{round, neg, of_bits, to_bits, to_unsigned, of_int, add, mul, div, sub, le, lt}
 use Rattle.linear_transformation.specs.Line.{line, map_of}
@@ -9,42 +9,38 @@ use Rattle.conversions.specs.Codes.{code_of}
 use Rattle.bus.specs.Rows.{Row, bytes, laid, level_of}
 use Rattle.bus.specs.Replies.{got_at, data_at}
 use Rattle.bus.specs.Run.{Run, done, bind, mapped, note, transfer, on_got}
-use Rattle.mcp3221.specs.declared.Answer as M1
-use Rattle.mcp3221.specs.declared.Answer.TheVariants as M2
-use Rattle.mcp3221.specs.declared.Reading.TheVariants as M3
 use Rattle.mcp3221.specs.Voltage as M
 use Rattle.ads7924.specs.declared.Channel.TheVariants.{Zero}
-use Rattle.ads7924.specs.declared.Reading as P1
-use Rattle.ads7924.specs.declared.Reading.TheVariants as P2
 use Rattle.ads7924.specs.Calls as P
 use Rattle.dac7571.specs.Voltage as B
-use Rattle.ad5627.specs.declared.Answer.TheVariants.{Ran}
 use Rattle.ad5627.specs.declared.Dac.TheVariants.{A}
-use Rattle.ad5627.specs.declared.Output as L
-use Rattle.ad5627.specs.Voltage.{set_voltage, own_voltage, number_of}
+use Rattle.ad5627.specs.Voltage.{set_voltage, own_voltage}
+use Rattle.gate.specs.Gate.{answer_number, failed_number, error_number}
+use Rattle.rf_channel.specs.declared.ChannelFault.{ChannelFault}
 use Rattle.rf_channel.specs.declared.ChannelFault.TheVariants.{OverTemperature, UnderTemperature, SupplyAlert}
 use Rattle.rf_channel.specs.declared.ChannelState.TheVariants.{Enabled}
+use Rattle.rf_channel.specs.declared.Interlock.{Interlock}
 use Rattle.rf_channel.specs.declared.Interlock.TheVariants.{Input, Output, Reflected}
 use Rattle.rf_channel.specs.declared.RfChannel.{RfChannel}
 use Rattle.rf_channel.specs.declared.States.TheVariants.{Powered}
 use Rattle.rf_channel.specs.Guards.{late_of}
 use Rattle.rf_plan.specs.Table.{table}
 use Rattle.rf_plan.specs.Plan.{planned}
+use Rattle.rf_machine.specs.declared.Cause.{Cause}
 use Rattle.rf_machine.specs.Hardware.{enable_output, hardware}
 use Rattle.rf_machine.specs.Event.{carry, process_event}
 use Rattle.rf_devices.specs.Devices.{apply_output}
 use Rattle.rf_call.specs.declared.Givens.{Givens}
 use Rattle.rf_call.specs.declared.Outcome.{Outcome}
 use Rattle.rf_call.specs.declared.Outcome.TheVariants.{Live, Absent, Halted}
-use Rattle.rf_call.specs.declared.Temperature.TheVariants.{Celsius}
 use Rattle.rf_call.specs.Outcome.{cause_of}
 use Rattle.rf_call.specs.Calls.{halting, after_event}
-use Rattle.rf_tests.specs.declared.Check.{Check}
-use Rattle.rf_tests.specs.declared.Check.TheVariants.{Fine, Found, Failed}
-use Rattle.rf_tests.specs.declared.Overdrive.{Overdrive}
-use Rattle.rf_tests.specs.declared.Overdrive.TheVariants.{Quiet, Source}
 use Rattle.rf_tests.specs.Tests.{fault_of, overdrive_source}
 use Rattle.rf_update.specs.Update.{on_check, fault_stage, trip_stage, after_stage, finishing, updating}
+use Rattle.bus.specs.declared.Failed.{Failed}
+use Rattle.bus.specs.declared.Error.{Error}
+use Rattle.gate.specs.declared.Bar.{Bar}
+use Rattle.bus.specs.Rows.{no_answer}
 
 -- the f32 nearest to n / d, and the f32 just below a positive one
 abbrev pub decimal : ℕ → ℕ → Float
@@ -75,23 +71,23 @@ told number m = let r = m (acknowledged 0 0) 0 0 in number r.ans ∷ outs r.rows
 
 -- of a driver called by itself, and of the channel's write of a level
 abbrev pub ad5627 : Float → List ℕ
-ad5627 v = told number_of (own_voltage v A)
+ad5627 v = told (answer_number error_number) (own_voltage v A)
 
 abbrev pub dac7571 : Float → List ℕ
-dac7571 v = told B.number_of (B.own_voltage v)
+dac7571 v = told (answer_number error_number) (B.own_voltage v)
 
-abbrev pub level : L.Output → ℕ
-level o = number_of (Ran o)
+abbrev pub level : Result Float Error → ℕ
+level o = answer_number error_number (Ok o)
 
 -- the number of a measurement's answer, and its volts
-abbrev pub measured : M1.Answer → List ℕ
-measured (M2.Ran (M3.Volts v)) = M.number_of (M2.Ran (M3.Volts v)) ∷ pattern v ∷ []
-measured (M2.Ran M3.Bus) = M.number_of (M2.Ran M3.Bus) ∷ []
-measured (M2.Refused bar) = M.number_of (M2.Refused bar) ∷ []
+abbrev pub measured : Result (Result Float Failed) Bar → List ℕ
+measured (Ok (Ok v)) = answer_number failed_number (Ok (Ok v)) ∷ pattern v ∷ []
+measured (Ok (Err e)) = answer_number {A = Float} failed_number (Ok (Err no_answer)) ∷ []
+measured (Err bar) = answer_number {A = Float} failed_number (Err bar) ∷ []
 
-abbrev pub measured_one : P1.Reading → List ℕ
-measured_one (P2.Volts v) = 0 ∷ pattern v ∷ []
-measured_one P2.Bus = 12 ∷ []
+abbrev pub measured_one : Result Float Failed → List ℕ
+measured_one (Ok v) = 0 ∷ pattern v ∷ []
+measured_one (Err e) = 12 ∷ []
 
 -- a channel that is powered and is to be enabled, with a threshold on a line of slope 20 and offset -10, and what is given to its update
 abbrev pub powered : Float → RfChannel
@@ -112,7 +108,7 @@ powered threshold =
     }
 
 abbrev pub givens : Givens
-givens = record { tick = 0; alert = true; output_overdrive = false; reflected_overdrive = false; watchdog = false; temperature = Celsius (decimal 25 1) }
+givens = record { tick = 0; alert = true; output_overdrive = false; reflected_overdrive = false; watchdog = false; temperature = Some (decimal 25 1) }
 
 -- answer 14 and its cause, or nothing
 abbrev pub halted : Outcome → List ℕ
@@ -121,18 +117,18 @@ halted Absent = []
 halted (Halted cause) = 14 ∷ cause_of cause ∷ []
 
 -- a fault, a failed temperature or a trip's source by a number, and 0 for none
-abbrev pub fault : Check → ℕ
-fault Fine = 0
-fault (Found OverTemperature) = 1
-fault (Found UnderTemperature) = 2
-fault (Found SupplyAlert) = 3
-fault Failed = 4
+abbrev pub fault : Result (Option ChannelFault) Cause → ℕ
+fault (Ok None) = 0
+fault (Ok (Some OverTemperature)) = 1
+fault (Ok (Some UnderTemperature)) = 2
+fault (Ok (Some SupplyAlert)) = 3
+fault (Err cause) = 4
 
-abbrev pub trip : Overdrive → ℕ
-trip Quiet = 0
-trip (Source Input) = 1
-trip (Source Output) = 2
-trip (Source Reflected) = 3
+abbrev pub trip : Option Interlock → ℕ
+trip None = 0
+trip (Some Input) = 1
+trip (Some Output) = 2
+trip (Some Reflected) = 3
 
 pub sheet : List (List ℕ)
 sheet =
@@ -150,8 +146,8 @@ sheet =
     ∷ (8 ∷ pattern (decimal 1717 1000) ∷ measured_one (P.get_voltage Zero (acknowledged 0x80 0x00 ++ acknowledged 0x80 0x00 ++ acknowledged 0 0 ++ acknowledged 0 0) 0 0).ans)
     ∷ (9 ∷ told level (apply_output (powered (decimal 15 1)).settings))
     ∷ (10 ∷ pattern (map_of (line (decimal 20 1) (neg (decimal 10 1))) (decimal 1 10)) ∷ halted (updating (powered (neg (decimal 8 1))) givens [] 0 0).ans)
-    ∷ (11 ∷ fault (fault_of (Celsius (decimal 60 1)) true) ∷ [])
-    ∷ (11 ∷ fault (fault_of (Celsius (decimal 5 1)) true) ∷ [])
+    ∷ (11 ∷ fault (fault_of (Some (decimal 60 1)) true) ∷ [])
+    ∷ (11 ∷ fault (fault_of (Some (decimal 5 1)) true) ∷ [])
     ∷ (11 ∷ trip (overdrive_source (decimal 20 1) givens) ∷ [])
     ∷ (12 ∷ level_of (late_of 200 200) ∷ level_of (late_of 201 200) ∷ [])
     ∷ []

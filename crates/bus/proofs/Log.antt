@@ -6,20 +6,22 @@ use mathlib.Core.List.{List, [], ◌∷◌, ◌++◌, append-nil, append_assoc}
 use Prim.Native.Nat.{ℕ, suc, ◌+◌, ◌-◌, ◌*◌, ◌≤◌, ◌<◌}
 use native.Mathlib.Nat.{add-zero}
 use native.Mathlib.Omega.{arith}
-use lib.Dec.{lit≤}
 use lib.ListN.{length, get_or, take, drop, set, length-drop, drop_of_length-le}
 use lib.Seq.{sets, sets-eq, length-sets, get_or-set_other, take_all, drop-drop}
+use Rattle.std.specs.Prelude.{Result}
+use Rattle.bus.specs.declared.Eight.{Eight}
+use Rattle.bus.specs.declared.Failed.{Failed}
+use borrow.Rule.Slice.PartMut.{put_mid}
 use Rattle.bus.specs.declared.Note.{Note}
 use Rattle.bus.specs.declared.Note.TheVariants.{SignalOn, EnablePower, Wait}
 use Rattle.bus.specs.declared.Transfer.{Transfer}
 use Rattle.bus.specs.declared.Transfer.TheVariants.{Write2, Write3, WriteRead, Read}
 use Rattle.bus.specs.declared.Head.{Head}
-use Rattle.bus.specs.declared.Got.{Got}
 use Rattle.bus.specs.Rows.{Row, noted, moved, note_head, transfer_head, laid, bytes, put, written}
 
 -- ---- one row
 
-pub length_laid : (slot : ℕ) (h : Head) (g : Got) → length (laid slot h g) ≡ 16
+pub length_laid : (slot : ℕ) (h : Head) (g : Result Eight Failed) → length (laid slot h g) ≡ 16
 unfolding laid
 length_laid slot h g = refl
 
@@ -28,22 +30,10 @@ unfolding bytes
 length_bytes (noted slot n) = length_laid slot (note_head n) _
 length_bytes (moved slot t g) = length_laid slot (transfer_head t) g
 
--- a row's kind leaves the slot's bits alone
-pub note_kind : (n : Note) → (note_head n).kind ≤ 4
-note_kind (SignalOn on) = lit≤ tt
-note_kind (EnablePower on) = lit≤ tt
-note_kind (Wait time) = lit≤ tt
-
-pub transfer_kind : (t : Transfer) → (transfer_head t).kind ≤ 4
-transfer_kind (Write2 address x y) = lit≤ tt
-transfer_kind (Write3 address x y z) = lit≤ tt
-transfer_kind (WriteRead address command count) = lit≤ tt
-transfer_kind (Read address count) = lit≤ tt
-
--- the free tail, lent and handed back with a row at its front
+-- the free tail of the log, lent and handed back with a row at its front
 pub put_back : (l : List ℕ) (u : ℕ) (b : List ℕ) {ys : List ℕ} → length b ≡ 16 → 16 * (u + 1) ≤ length l
     → ys ≡ b ++ drop 16 (take (length l - 16 * u) (drop (16 * u) l))
-    → take (16 * u) l ++ (ys ++ drop (length l - 16 * u) (drop (16 * u) l)) ≡ put l u b
+    → put_mid (16 * u) (length l - 16 * u) l ys ≡ put l u b
 unfolding put
 put_back l u b n h e =
     let a = 16 * u in

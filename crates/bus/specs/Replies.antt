@@ -1,8 +1,8 @@
 -- The replies: nine bytes to a transfer, a status and eight data bytes. Definitions only.
-use Rattle.std.specs.Prelude.{ℕ, ◌+◌, ◌*◌, cond, List, get_or, eqb, ltb}
+use Rattle.std.specs.Prelude.{ℕ, ◌+◌, ◌*◌, cond, List, get_or, eqb, ltb, Result, Ok, Err}
 use Rattle.bus.specs.declared.Eight.{Eight}
-use Rattle.bus.specs.declared.Got.{Got}
-use Rattle.bus.specs.declared.Got.TheVariants.{Acked, Failed}
+use Rattle.bus.specs.declared.Failed.{Failed}
+use Rattle.bus.specs.Rows.{no_answer}
 
 -- data byte number i, or 0 where it was not asked for
 abbrev pub kept_of : ℕ → ℕ → ℕ → ℕ
@@ -23,5 +23,5 @@ data_at replies start count =
     }
 
 -- what a transfer gets back that asks for `count` bytes, after `taken` others: a status other than 0 is a failure
-unfoldable pub got_at : List ℕ → ℕ → ℕ → Got
-got_at replies taken count = cond (eqb (get_or replies (9 * taken) 0) 0) (Acked (data_at replies (9 * taken) count)) Failed
+unfoldable pub got_at : List ℕ → ℕ → ℕ → Result Eight Failed
+got_at replies taken count = cond (eqb (get_or replies (9 * taken) 0) 0) (Ok (data_at replies (9 * taken) count)) (Err no_answer)

@@ -1,19 +1,18 @@
 -- The log's rows and the sixteen bytes of each, as document 01 lays them out. Definitions only.
-use Rattle.std.specs.Prelude.{ℕ, ◌+◌, ◌*◌, ◌/◌, ◌%◌, Bool, true, false, List, [], ◌∷◌}
+use Rattle.std.specs.Prelude.{ℕ, ◌+◌, ◌*◌, ◌/◌, ◌%◌, Bool, true, false, List, [], ◌∷◌, Result, Ok, Err}
 use Rattle.std.proofs.lemmas.List.Edits.{sets}
 use Rattle.bus.specs.declared.Eight.{Eight}
+use Rattle.bus.specs.declared.Failed.{Failed}
 use Rattle.bus.specs.declared.Head.{Head}
 use Rattle.bus.specs.declared.Note.{Note}
 use Rattle.bus.specs.declared.Note.TheVariants.{SignalOn, EnablePower, Wait}
 use Rattle.bus.specs.declared.Transfer.{Transfer}
 use Rattle.bus.specs.declared.Transfer.TheVariants.{Write2, Write3, WriteRead, Read}
-use Rattle.bus.specs.declared.Got.{Got}
-use Rattle.bus.specs.declared.Got.TheVariants.{Acked, Failed}
 
 -- a row: a note of a slot, or a transfer of a slot with what came back
 pub data Row : Type 0 where
   noted : ℕ → Note → Row
-  moved : ℕ → Transfer → Got → Row
+  moved : ℕ → Transfer → Result Eight Failed → Row
 
 -- ---- what is sent: kind, address or pin, how many bytes out, how many in, three bytes out
 
@@ -40,16 +39,20 @@ transfer_head (Read address count) = head 3 address 0 count 0 0 0
 
 -- ---- what came back: a status (0 acknowledged, 1 failed) and eight bytes in, all 0 after a failure
 
+-- the error of a transfer that failed, which has no more to say
+abbrev pub no_answer : Failed
+no_answer = record {}
+
 abbrev pub no_data : Eight
 no_data = record { b0 = 0; b1 = 0; b2 = 0; b3 = 0; b4 = 0; b5 = 0; b6 = 0; b7 = 0 }
 
-abbrev pub status_of : Got → ℕ
-status_of (Acked d) = 0
-status_of Failed = 1
+abbrev pub status_of : Result Eight Failed → ℕ
+status_of (Ok d) = 0
+status_of (Err e) = 1
 
-abbrev pub data_of : Got → Eight
-data_of (Acked d) = d
-data_of Failed = no_data
+abbrev pub data_of : Result Eight Failed → Eight
+data_of (Ok d) = d
+data_of (Err e) = no_data
 
 abbrev pub listed : Eight → List ℕ
 listed d = d.b0 ∷ d.b1 ∷ d.b2 ∷ d.b3 ∷ d.b4 ∷ d.b5 ∷ d.b6 ∷ d.b7 ∷ []
@@ -57,12 +60,12 @@ listed d = d.b0 ∷ d.b1 ∷ d.b2 ∷ d.b3 ∷ d.b4 ∷ d.b5 ∷ d.b6 ∷ d.b7 �
 -- ---- the row
 
 -- sixteen bytes: the slot and the kind in one, then the head, the status and the data as above
-unfoldable pub laid : ℕ → Head → Got → List ℕ
+unfoldable pub laid : ℕ → Head → Result Eight Failed → List ℕ
 laid slot h g = (16 * slot + h.kind) ∷ h.address ∷ h.outs ∷ h.ins ∷ status_of g ∷ h.out0 ∷ h.out1 ∷ h.out2 ∷ listed (data_of g)
 
 -- a note has the status 0 and no bytes in
 unfoldable pub bytes : Row → List ℕ
-bytes (noted slot n) = laid slot (note_head n) (Acked no_data)
+bytes (noted slot n) = laid slot (note_head n) (Ok no_data)
 bytes (moved slot t g) = laid slot (transfer_head t) g
 
 -- ---- the log

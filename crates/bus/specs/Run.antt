@@ -1,12 +1,12 @@
 -- A run: what a piece of work does with the bus. It sees the replies, the slot and how many replies were taken before it, and nothing of the log.
 -- So its rows and its answer rest on these alone. Definitions only.
-use Rattle.std.specs.Prelude.{ℕ, ◌+◌, ◌*◌, ◌≤◌, ◌<◌, ◌≡◌, List, [], ◌∷◌, ◌++◌, length}
+use Rattle.std.specs.Prelude.{ℕ, ◌+◌, ◌*◌, ◌≤◌, ◌<◌, ◌≡◌, List, [], ◌∷◌, ◌++◌, length, Result, Ok, Err}
 use Rattle.bus.specs.declared.Cursor.{Cursor}
+use Rattle.bus.specs.declared.Bus.{Bus}
 use Rattle.bus.specs.declared.Eight.{Eight}
+use Rattle.bus.specs.declared.Failed.{Failed}
 use Rattle.bus.specs.declared.Note.{Note}
 use Rattle.bus.specs.declared.Transfer.{Transfer}
-use Rattle.bus.specs.declared.Got.{Got}
-use Rattle.bus.specs.declared.Got.TheVariants.{Acked, Failed}
 use Rattle.bus.specs.Rows.{Row, noted, moved, transfer_head, written}
 use Rattle.bus.specs.Replies.{got_at}
 
@@ -42,15 +42,15 @@ unfoldable pub note : Note → Run (Unit {0})
 note n replies slot taken = record { rows = noted slot n ∷ []; taken = taken; ans = tt }
 
 -- one row with what came back, and one reply
-unfoldable pub transfer : Transfer → Run Got
+unfoldable pub transfer : Transfer → Run (Result Eight Failed)
 transfer t replies slot taken =
     let got = got_at replies taken (transfer_head t).ins in
     record { rows = moved slot t got ∷ []; taken = taken + 1; ans = got }
 
 -- a transfer that ends the run with the answer a if it fails, and otherwise goes on with the eight data bytes
-unfoldable pub on_got : {A : Type 0} → A → (Eight → Run A) → Got → Run A
-on_got a k (Acked d) = k d
-on_got a k Failed = done a
+unfoldable pub on_got : {A : Type 0} → A → (Eight → Run A) → Result Eight Failed → Run A
+on_got a k (Ok d) = k d
+on_got a k (Err e) = done a
 
 abbrev pub try : {A : Type 0} → Transfer → A → (Eight → Run A) → Run A
 try t a k = bind (transfer t) (on_got a k)
@@ -74,3 +74,17 @@ pub record Room (c : Cursor) (n t : ℕ) (l rs : List ℕ) : Type 0 where
   pub slot : c.slot < 8
   pub rows : 16 * (c.used + n) ≤ length l
   pub replies : 9 * (c.taken + t) ≤ length rs
+
+-- The same of a bus: b before and b' after. The replies are not touched.
+pub record Runs {A : Type 0} (m : Run A) (b : Bus) (n t : ℕ) (b' : Bus) (a : A) : Type 0 where
+  pub does : Does m b.replies.now b.log.now b.at n t b'.log.now b'.at a
+  pub replies : b'.replies.now ≡ b.replies.now
+
+-- a bus with room for n rows more, and t replies more
+pub record HasRoom (b : Bus) (n t : ℕ) : Type 0 where
+  pub room : Room b.at n t b.log.now b.replies.now
+
+-- a bus with room for n rows more, whatever the replies are
+pub record HasRows (b : Bus) (n : ℕ) : Type 0 where
+  pub slot : b.at.slot < 8
+  pub rows : 16 * (b.at.used + n) ≤ length b.log.now

@@ -1,11 +1,12 @@
 // The bus as a caller sees it: a log of rows, sixteen bytes each, and replies, nine bytes each. Every
-// driver goes through `add_note` and `run_transfer`.
+// driver goes through `Bus::note` and `Bus::transfer`.
 #![tactic(auto)]
 
 ghost use Rattle.std.specs.Prelude.{◌≡◌, List, ◌++◌, ℕ, ◌+◌, ◌*◌, ◌≤◌, ◌<◌, length, drop};
 ghost use Rattle.bus.specs.Rows.{head, level_of, no_data, status_of, data_of, note_head, transfer_head, laid, put};
 ghost use Rattle.bus.specs.Replies.{kept_of, got_at};
-ghost use Rattle.bus.specs.Run.{note, transfer, Does, Room};
+ghost use Rattle.bus.specs.declared.Error.TheVariants.{Bus as Unheard};
+ghost use Rattle.bus.specs.Run.{note, transfer, Runs, HasRoom, HasRows};
 
 // Where a call stands: the slot that it names, the log rows in use, the replies taken.
 #[derive(Clone, Copy)]
@@ -15,7 +16,15 @@ pub struct Cursor {
     pub taken: usize,
 }
 
-// The eight data bytes of a reply. An enum can hold no array.
+// The bus as a call has it: the log that it adds rows to, the replies that it takes, and where it stands.
+#[derive(Drop)]
+pub struct Bus<'a> {
+    pub log: &'a mut [u8],
+    pub replies: &'a [u8],
+    pub at: Cursor,
+}
+
+// The eight data bytes of a reply. No array: in the logic that is a list of any length, and a row has sixteen bytes.
 #[derive(Clone, Copy)]
 pub struct Eight {
     pub b0: u8,
@@ -61,19 +70,27 @@ pub enum Transfer {
     },
 }
 
-// What came back: the bytes asked for, with 0 for the others, or a failure.
+// The chip did not answer.
 #[derive(Clone, Copy)]
-pub enum Got {
-    Acked(Eight),
-    Failed,
+pub struct Failed;
+
+// Why a chip does not do what its driver is asked: the value has no code, or the chip did not answer.
+#[derive(Clone, Copy)]
+pub enum Error {
+    Range,
+    Bus,
 }
 
-// What came back, and where the next row goes.
-#[derive(Clone, Copy)]
-pub struct Taken {
-    pub got: Got,
-    pub next: Cursor,
+impl From<Failed> for Error {
+    ghost from_gives = { λ _ e. e ≡ Unheard };
+
+    fn from(_failed: Failed) -> Error {
+        Error::Bus
+    }
 }
+
+// What came back: the bytes asked for, with 0 for the others, or a failure.
+pub type Got = Result<Eight, Failed>;
 
 // A row but for the slot, the status and the bytes in.
 #[derive(Clone, Copy)]
@@ -85,13 +102,6 @@ pub struct Head {
     pub out0: u8,
     pub out1: u8,
     pub out2: u8,
-}
-
-// A pin's level as a byte.
-fn level(on: bool) -> u8
-    ensures { result ≡ level_of on }
-{
-    if on { 1 } else { 0 }
 }
 
 fn row_head(kind: u8, address: u8, outs: u8, ins: u8, out0: u8, out1: u8, out2: u8) -> Head
@@ -112,17 +122,10 @@ fn note_head(what: Note) -> Head
     ensures { result ≡ note_head what }
 {
     match what {
-        Note::SignalOn(on) => {
-            let out = level(on);
-            row_head(0, 0, 1, 0, out, 0, 0)
-        }
-        Note::EnablePower(on) => {
-            let out = level(on);
-            row_head(0, 1, 1, 0, out, 0, 0)
-        }
+        Note::SignalOn(on) => row_head(0, 0, 1, 0, u8::from(on), 0, 0),
+        Note::EnablePower(on) => row_head(0, 1, 1, 0, u8::from(on), 0, 0),
         Note::Wait(time) => {
-            let high = (time / 256) as u8;
-            let low = (time % 256) as u8;
+            let [high, low] = time.to_be_bytes();
             row_head(4, 0, 2, 0, high, low, 0)
         }
     }
@@ -171,8 +174,8 @@ fn status_of(got: Got) -> u8
     ensures { result ≡ status_of got }
 {
     match got {
-        Got::Acked(_) => 0,
-        Got::Failed => 1,
+        Ok(_) => 0,
+        Err(_) => 1,
     }
 }
 
@@ -180,8 +183,8 @@ fn data_of(got: Got) -> Eight
     ensures { result ≡ data_of got }
 {
     match got {
-        Got::Acked(data) => data,
-        Got::Failed => no_data(),
+        Ok(data) => data,
+        Err(_) => no_data(),
     }
 }
 
@@ -193,6 +196,7 @@ fn kept(count: u8, i: u8, byte: u8) -> u8
 }
 
 // The reply after `taken` others, of which `count` data bytes were asked for.
+#[tactic(auto, unfolding(crate::specs::Replies::got_at, crate::specs::Replies::data_at))]
 fn reply_at(replies: &[u8], taken: usize, count: u8) -> Got
     requires { 9 * (taken + 1) ≤ length replies.now }
     ensures { result ≡ got_at replies.now taken count }
@@ -200,7 +204,7 @@ fn reply_at(replies: &[u8], taken: usize, count: u8) -> Got
     let start = 9 * taken;
     let status = replies[start];
     if status != 0 {
-        return Got::Failed;
+        return Err(Failed);
     }
     let data = Eight {
         b0: kept(count, 0, replies[start + 1]),
@@ -212,76 +216,74 @@ fn reply_at(replies: &[u8], taken: usize, count: u8) -> Got
         b6: kept(count, 6, replies[start + 7]),
         b7: kept(count, 7, replies[start + 8]),
     };
-    Got::Acked(data)
+    Ok(data)
+}
+
+// The sixteen bytes of a row.
+#[tactic(auto, unfolding(crate::specs::Rows::laid))]
+fn laid(slot: u8, head: Head, got: Got) -> [u8; 16]
+    requires { (slot < 8) × (head.kind ≤ 4) }
+    ensures { result ≡ laid slot head got }
+{
+    let data = data_of(got);
+    [
+        16 * slot + head.kind,
+        head.address,
+        head.outs,
+        head.ins,
+        status_of(got),
+        head.out0,
+        head.out1,
+        head.out2,
+        data.b0,
+        data.b1,
+        data.b2,
+        data.b3,
+        data.b4,
+        data.b5,
+        data.b6,
+        data.b7,
+    ]
 }
 
 // Writes the row at the front of the log's free tail.
-fn write_row(row: &mut [u8], slot: u8, head: Head, got: Got)
-    requires { (slot < 8) × (head.kind ≤ 4) × (16 ≤ length row.old) }
-    ensures { row.new ≡ laid slot head got ++ drop 16 row.old }
+fn write_row(tail: &mut [u8], slot: u8, head: Head, got: Got)
+    requires { (slot < 8) × (head.kind ≤ 4) × (16 ≤ length tail.old) }
+    ensures { tail.new ≡ laid slot head got ++ drop 16 tail.old }
 {
-    let status = status_of(got);
-    let data = data_of(got);
-    let first = 16 * slot + head.kind;
-    row[0] = first;
-    row[1] = head.address;
-    row[2] = head.outs;
-    row[3] = head.ins;
-    row[4] = status;
-    row[5] = head.out0;
-    row[6] = head.out1;
-    row[7] = head.out2;
-    row[8] = data.b0;
-    row[9] = data.b1;
-    row[10] = data.b2;
-    row[11] = data.b3;
-    row[12] = data.b4;
-    row[13] = data.b5;
-    row[14] = data.b6;
-    row[15] = data.b7;
+    tail[..16].copy_from_slice(&laid(slot, head, got));
 }
 
-// Adds a row to the log and moves the cursor past it.
+// Writes the row behind those in use.
 fn add_row(log: &mut [u8], at: Cursor, head: Head, got: Got)
     requires { (at.slot < 8) × (head.kind ≤ 4) × (16 * (at.used + 1) ≤ length log.old) }
     ensures { log.new ≡ put log.old at.used (laid at.slot head got) }
 {
-    let used = at.used;
-    write_row(&mut log[16 * used..], at.slot, head, got);
+    write_row(&mut log[16 * at.used..], at.slot, head, got);
 }
 
-// Logs a pin's level or a wait.
-pub fn add_note(log: &mut [u8], at: Cursor, what: Note) -> Cursor
-    requires { (at.slot < 8) × (16 * (at.used + 1) ≤ length log.old) }
-    ensures { (rs : List ℕ) → Does (note what) rs log.old at 1 0 log.new result tt }
-{
-    let head = note_head(what);
-    let none = no_data();
-    let got = Got::Acked(none);
-    add_row(log, at, head, got);
-    let used = at.used + 1;
-    Cursor {
-        slot: at.slot,
-        used,
-        taken: at.taken,
+impl Bus<'_> {
+    // Logs a pin's level or a wait.
+    pub fn note(&mut self, what: Note)
+        requires { HasRows self.old 1 }
+        ensures lent { self.new.log.ghost_name ≡ self.old.log.ghost_name }
+        ensures run { Runs (note what) self.old 1 0 self.new tt }
+    {
+        add_row(self.log, self.at, note_head(what), Ok(no_data()));
+        self.at.used += 1;
     }
-}
 
-// Logs a transfer with what comes back, which is its answer.
-pub fn run_transfer(log: &mut [u8], replies: &[u8], at: Cursor, what: Transfer) -> Taken
-    requires { Room at 1 1 log.old replies.now }
-    ensures { Does (transfer what) replies.now log.old at 1 1 log.new result.next result.got }
-{
-    let head = transfer_head(what);
-    let taken = at.taken;
-    let got = reply_at(replies, taken, head.ins);
-    add_row(log, at, head, got);
-    let used = at.used + 1;
-    let past = taken + 1;
-    let next = Cursor {
-        slot: at.slot,
-        used,
-        taken: past,
-    };
-    Taken { got, next }
+    // Logs a transfer with what comes back, which is its answer.
+    pub fn transfer(&mut self, what: Transfer) -> Result<Eight, Failed>
+        requires { HasRoom self.old 1 1 }
+        ensures lent { self.new.log.ghost_name ≡ self.old.log.ghost_name }
+        ensures run { Runs (transfer what) self.old 1 1 self.new result }
+    {
+        let head = transfer_head(what);
+        let got = reply_at(self.replies, self.at.taken, head.ins);
+        add_row(self.log, self.at, head, got);
+        self.at.used += 1;
+        self.at.taken += 1;
+        got
+    }
 }

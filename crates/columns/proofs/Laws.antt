@@ -1,16 +1,10 @@
--- A line's columns by the line's first byte, and by the byte at an index. Assumes nothing.
-use Prim.Native.Nat.{ℕ, zero, suc, ◌+◌, ◌-◌, ◌≤◌, ◌<◌}
-use mathlib.Core.Path.{◌≡◌, refl, sym, ap, ◌∙◌}
-use mathlib.Core.Bool.{Bool, true, false, cond}
-use mathlib.Core.List.{List, [], ◌∷◌}
-use native.Mathlib.Numerals.{add-one}
-use native.Mathlib.Omega.{arith}
-use lib.Dec.{eqb}
-use lib.ListN.{length, get_or, take, drop, drop_of_length-le}
-use lib.Seq.{drop-cons}
-use borrow.Author.Tests.{eq-eqb, ne_eqb}
-use Rattle.scan.specs.Scan.{index_of, index_after}
+-- A line's columns: their number by its commas, the first, and those behind a comma. Assumes nothing.
+use Rattle.std.proofs.Common.{◌≡◌, ◌≤◌, ◌<◌, ℕ, zero, suc, ◌+◌, ◌-◌, Bool, true, false, cond, List, [], ◌∷◌, length, get_or, take, drop, refl, sym, ap, ◌∙◌, arith, eqb, count_by, length-drop}
+use Rattle.std.proofs.lemmas.List.{drop-drop}
+use Rattle.std.proofs.lemmas.List.Recursion.{is_count_by}
+use Rattle.scan.specs.Scan.{index_of, index_after, slice}
 use Rattle.columns.specs.Columns.{comma, onto, split, count_of, column_of}
+use lib.Seq.{take-length}
 
 -- ---- a byte more at the front of the first column
 
@@ -26,32 +20,29 @@ onto_count : (b : ℕ) (xs : List (List ℕ)) → 0 < length xs → length (onto
 onto_count b [] h = absurd (omega arith)
 onto_count b (x ∷ xs) h = refl
 
-onto_some : (b : ℕ) (xs : List (List ℕ)) → 0 < length (onto b xs)
-onto_some b [] = omega arith
-onto_some b (x ∷ xs) = omega arith
+-- ---- the number of columns
 
--- ---- by the first byte
+commas : List ℕ → ℕ
+commas [] = 0
+commas (b ∷ l) = cond (eqb b comma) (1 + commas l) (commas l)
 
-split_comma : (b : ℕ) (l : List ℕ) → b ≡ comma → split (b ∷ l) ≡ [] ∷ split l
-unfolding split
-split_comma b l h = rw (eq-eqb b comma h)
-
-split_other : (b : ℕ) (l : List ℕ) → (b ≡ comma → ⊥) → split (b ∷ l) ≡ onto b (split l)
-unfolding split
-split_other b l h = rw (ne_eqb b comma h)
-
--- no line is without a column
-split_some : (l : List ℕ) → 0 < length (split l)
-unfolding split
-split_some [] = omega arith
-split_some (b ∷ l) = go (eqb b comma)
+one_more : (l : List ℕ) → count_of l ≡ commas l + 1
+unfolding count_of split commas
+one_more [] = refl
+one_more (b ∷ l) = go (eqb b comma) (one_more l)
   where
-    go : (t : Bool) → 0 < length (cond t ([] ∷ split l) (onto b (split l)))
-    go true = omega arith
-    go false = onto_some b (split l)
+    go : (t : Bool) → length (split l) ≡ commas l + 1 → length (cond t ([] ∷ split l) (onto b (split l))) ≡ cond t (1 + commas l) (commas l) + 1
+    go true h = omega (arith, h)
+    go false h = onto_count b (split l) (omega (arith, h)) ∙ h
 
--- the first column ends before the first comma
-pub first_front : (l : List ℕ) → take (index_of comma l) l ≡ column_of 0 l
+pub count_is : (l : List ℕ) → count_of l ≡ count_by (λ b. eqb b comma) l + 1
+unfolding commas
+count_is l = rw (← is_count_by commas (λ b. eqb b comma) refl (λ x xs. refl) l) (one_more l)
+
+-- ---- the columns of a line, by where its first comma stands
+
+-- the first column ends before it
+first_front : (l : List ℕ) → take (index_of comma l) l ≡ column_of 0 l
 unfolding column_of split index_of index_after
 first_front [] = refl
 first_front (b ∷ l) = go (eqb b comma) (first_front l)
@@ -60,40 +51,45 @@ first_front (b ∷ l) = go (eqb b comma) (first_front l)
     go true h = refl
     go false h = ap {B = List ℕ} (λ r. b ∷ r) h ∙ sym (onto_first b (split l))
 
--- ---- by the byte at an index
+-- the others stand behind it
+behind : (m : ℕ) (l : List ℕ) → index_of comma l < length l → column_of (suc m) l ≡ column_of m (drop (suc (index_of comma l)) l)
+unfolding column_of split index_of index_after
+behind m [] h = absurd (omega arith)
+behind m (b ∷ l) h = go (eqb b comma) (behind m l) h
+  where
+    go : (t : Bool) → (index_of comma l < length l → get_or (split l) (suc m) [] ≡ get_or (split (drop (suc (index_of comma l)) l)) m []) → index_after t (index_of comma l) < length (b ∷ l) → get_or (cond t ([] ∷ split l) (onto b (split l))) (suc m) [] ≡ get_or (split (drop (suc (index_after t (index_of comma l))) (b ∷ l))) m []
+    go true more h = refl
+    go false more h = onto_later b m (split l) ∙ more (omega arith)
 
-module _ (s : List ℕ) (i : ℕ) (h : i < length s) where
-  from : drop i s ≡ get_or s i 0 ∷ drop (i + 1) s
-  from = rw (add-one, drop-cons s i 0)
+-- where there is none, nor are they
+alone : (m : ℕ) (l : List ℕ) → index_of comma l ≡ length l → column_of (suc m) l ≡ []
+unfolding column_of split index_of index_after
+alone m [] h = refl
+alone m (b ∷ l) h = go (eqb b comma) (alone m l) h
+  where
+    go : (t : Bool) → (index_of comma l ≡ length l → get_or (split l) (suc m) [] ≡ []) → index_after t (index_of comma l) ≡ length (b ∷ l) → get_or (cond t ([] ∷ split l) (onto b (split l))) (suc m) [] ≡ []
+    go true more h = absurd (omega arith)
+    go false more h = onto_later b m (split l) ∙ more (omega arith)
 
-  pub count_comma : get_or s i 0 ≡ comma → count_of (drop i s) ≡ 1 + count_of (drop (i + 1) s)
-  unfolding count_of
-  count_comma e = rw (from, split_comma (get_or s i 0) (drop (i + 1) s) e) (omega arith)
+-- ---- the same, from a place of the line on: e is the place of the next comma, or the line's end
 
-  pub count_other : (get_or s i 0 ≡ comma → ⊥) → count_of (drop i s) ≡ count_of (drop (i + 1) s)
-  unfolding count_of
-  count_other e = rw (from, split_other (get_or s i 0) (drop (i + 1) s) e) (onto_count (get_or s i 0) (split (drop (i + 1) s)) (split_some (drop (i + 1) s)))
+module _ (s : List ℕ) (i e : ℕ) (within : i ≤ length s) (place : e ≡ i + index_of comma (slice i (length s) s)) where
+  -- up to the end, a slice is what stands from its start on
+  front : index_of comma (drop i s) ≡ e - i
+  unfolding slice
+  front = let p : index_of comma (drop i (take (length s) s)) ≡ e - i = omega arith in rw take-length at p
 
-  pub column_comma : (k : ℕ) → 0 < k → get_or s i 0 ≡ comma → column_of k (drop i s) ≡ column_of (k - 1) (drop (i + 1) s)
-  unfolding column_of
-  column_comma zero z e = absurd (omega arith)
-  column_comma (suc k) z e =
-      let less : suc k - 1 ≡ k = omega arith in
-      rw (from, split_comma (get_or s i 0) (drop (i + 1) s) e, less)
+  pub first : take (e - i) (drop i s) ≡ column_of 0 (drop i s)
+  first = rw (← front) (first_front (drop i s))
 
-  pub column_other : (k : ℕ) → 0 < k → (get_or s i 0 ≡ comma → ⊥) → column_of k (drop i s) ≡ column_of k (drop (i + 1) s)
-  unfolding column_of
-  column_other zero z e = absurd (omega arith)
-  column_other (suc k) z e = rw (from, split_other (get_or s i 0) (drop (i + 1) s) e) (onto_later (get_or s i 0) k (split (drop (i + 1) s)))
+  pub passed : (k : ℕ) → 0 < k → e < length s → column_of k (drop i s) ≡ column_of (k - 1) (drop (e + 1) s)
+  passed zero z h = absurd (omega arith)
+  passed (suc m) z h =
+      let some : index_of comma (drop i s) < length (drop i s) = simp length-drop (omega (arith, front)) in
+      let at : i + suc (index_of comma (drop i s)) ≡ e + 1 = omega (arith, front) in
+      let less : suc m - 1 ≡ m = omega arith in
+      rw less (behind m (drop i s) some ∙ ap (column_of m) (drop-drop _ i s ∙ ap (λ (n : ℕ). drop n s) at))
 
--- ---- at the end
-
-module _ (s : List ℕ) (i : ℕ) (h : length s ≤ i) where
-  pub count_end : count_of (drop i s) ≡ 1
-  unfolding count_of split
-  count_end = rw (drop_of_length-le s h)
-
-  pub column_end : (k : ℕ) → 0 < k → column_of k (drop i s) ≡ []
-  unfolding column_of split
-  column_end zero z = absurd (omega arith)
-  column_end (suc k) z = rw (drop_of_length-le s h)
+  pub none : (k : ℕ) → 0 < k → e ≡ length s → column_of k (drop i s) ≡ []
+  none zero z h = absurd (omega arith)
+  none (suc m) z h = alone m (drop i s) (simp length-drop (omega (arith, front)))

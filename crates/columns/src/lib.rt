@@ -1,7 +1,7 @@
 // The comma-separated columns of one line, with no quotes.
 #![tactic(auto)]
 
-ghost use Rattle.std.specs.Prelude.{◌≡◌, length};
+ghost use Rattle.std.specs.Prelude.{◌≡◌};
 ghost use Rattle.columns.specs.Columns.{count_of, column_of, Spans};
 
 const COMMA: u8 = b',';
@@ -17,15 +17,7 @@ pub struct Span {
 pub fn count(s: &[u8]) -> usize
     ensures { result ≡ count_of s.now }
 {
-    let mut n = 1;
-    let mut i = 0;
-    while i < s.len() {
-        if s[i] == COMMA {
-            n += 1;
-        }
-        i += 1;
-    }
-    n
+    s.iter().filter(|b| **b == COMMA).count() + 1
 }
 
 // Where column k stands, from 0. A column that the line does not have is an empty span at the line's
@@ -33,17 +25,17 @@ pub fn count(s: &[u8]) -> usize
 pub fn column(s: &[u8], k: usize) -> Span
     ensures { Spans s.now result (column_of k s.now) }
 {
+    // Column k begins after the line's first k commas.
     let mut start = 0;
-    let mut left = k;
-    // Column k begins after the line's first k commas: `left` of them are still to be passed.
-    while 0 < left {
-        if s.len() <= start {
-            return Span { start, end: start };
+    for _ in 0..k {
+        let comma = scan::find(s, start, s.len(), COMMA);
+        if comma == s.len() {
+            return Span {
+                start: comma,
+                end: comma,
+            };
         }
-        if s[start] == COMMA {
-            left -= 1;
-        }
-        start += 1;
+        start = comma + 1;
     }
     let end = scan::find(s, start, s.len(), COMMA);
     Span { start, end }
@@ -53,25 +45,6 @@ pub fn column(s: &[u8], k: usize) -> Span
 pub fn part(s: &[u8], k: usize) -> &[u8]
     ensures { result.now ≡ column_of k s.now }
 {
-    let span = column(s, k);
-    let start = span.start;
-    let end = span.end;
+    let Span { start, end } = column(s, k);
     &s[start..end]
-}
-
-// A part's length, asked of the part: it is lent on as a slice of its own.
-fn length_of(s: &[u8]) -> usize
-    ensures { result ≡ length s.now }
-{
-    s.len()
-}
-
-// How many bytes column k has.
-pub fn column_length(s: &[u8], k: usize) -> usize
-    ensures { result ≡ length (column_of k s.now) }
-{
-    let span = column(s, k);
-    let start = span.start;
-    let end = span.end;
-    length_of(&s[start..end])
 }

@@ -7,18 +7,11 @@ ghost use Rattle.conversions.specs.Codes.{code_of, volts_of, ad5627_code, dac757
 
 use cut::cut;
 
-// What a conversion answers: the code to send, or a refusal for range.
+// The codes of a pair of alarm limits.
 #[derive(Clone, Copy)]
-pub enum Conversion {
-    Code(u16),
-    Range,
-}
-
-// What the conversion of a pair of alarm limits answers: both codes, or a refusal for range.
-#[derive(Clone, Copy)]
-pub enum Limits {
-    Codes { low: u16, high: u16 },
-    Bounds,
+pub struct Limits {
+    pub low: u16,
+    pub high: u16,
 }
 
 // The share of a full scale in steps of 1/4096, cut to a whole number.
@@ -36,33 +29,27 @@ pub fn volts_of(scale: f32, code: u16) -> f32
 }
 
 // ad5627: a NaN fails the first test, and 2.5 V itself would need a thirteenth bit.
-pub fn ad5627_code(voltage: f32) -> Conversion
+pub fn ad5627_code(voltage: f32) -> Option<u16>
     ensures { result ≡ ad5627_code voltage }
 {
-    if 0.0 <= voltage {
-        if voltage <= 2.5 {
-            let code = code_of(2.5, voltage);
-            if code <= 0xFFF {
-                return Conversion::Code(code);
-            }
+    if 0.0 <= voltage && voltage <= 2.5 {
+        let code = code_of(2.5, voltage);
+        if code <= 0xFFF {
+            return Some(code);
         }
     }
-    Conversion::Range
+    None
 }
 
 // dac7571: a NaN fails neither test, and is sent as 0.
-pub fn dac7571_code(voltage: f32) -> Conversion
+pub fn dac7571_code(voltage: f32) -> Option<u16>
     ensures { result ≡ dac7571_code voltage }
 {
-    if voltage >= 3.3 {
-        return Conversion::Range;
-    }
-    if voltage < 0.0 {
-        return Conversion::Range;
+    if voltage >= 3.3 || voltage < 0.0 {
+        return None;
     }
     // The mask is the Rust's. It changes nothing, as the promise says.
-    let code = code_of(3.3, voltage) & 0xFFF;
-    Conversion::Code(code)
+    Some(code_of(3.3, voltage) & 0xFFF)
 }
 
 // ads7924: one alarm limit as a code.
@@ -73,30 +60,21 @@ fn limit_of(voltage: f32) -> u16
 }
 
 // ads7924: a pair of alarm limits.
-pub fn ads7924_codes(low: f32, high: f32) -> Limits
+pub fn ads7924_codes(low: f32, high: f32) -> Option<Limits>
     ensures { result ≡ ads7924_codes low high }
 {
-    if high < low {
-        return Limits::Bounds;
-    }
-    if low < 0.0 {
-        return Limits::Bounds;
-    }
-    if high < 0.0 {
-        return Limits::Bounds;
+    if high < low || low < 0.0 || high < 0.0 {
+        return None;
     }
     let low_code = limit_of(low);
     let high_code = limit_of(high);
-    if 0x1000 <= low_code {
-        return Limits::Bounds;
+    if 0x1000 <= low_code || 0x1000 <= high_code {
+        return None;
     }
-    if 0x1000 <= high_code {
-        return Limits::Bounds;
-    }
-    Limits::Codes {
+    Some(Limits {
         low: low_code,
         high: high_code,
-    }
+    })
 }
 
 // ads7924: the volts that a code stands for.

@@ -2,7 +2,7 @@
 // 65,535 or more gives 65,535, and anything else loses its fraction.
 #![tactic(auto)]
 
-ghost use Rattle.std.specs.Prelude.{◌≡◌, ◌/◌, ◌^◌, ◌≤◌};
+ghost use Rattle.std.specs.Prelude.{◌≡◌, ◌≤◌};
 ghost use Rattle.std.specs.Float.{binary32};
 ghost use Rattle.std.specs.Float.Ieee.{of_bits, to_unsigned};
 
@@ -34,22 +34,9 @@ fn whole_part(bits: u32) -> u16
     } else if exponent < 143 {
         // The number is `digits` * 2 ^ (exponent - 150), so the lowest 150 - exponent bits are its fraction.
         let digits = 0x80_0000 + bits % 0x80_0000;
-        drop_bits(digits, 150 - exponent) as u16
+        (digits >> (150 - exponent)) as u16
     } else {
         // The number is 2 ^ 16 or more, or the infinity.
         65535
     }
-}
-
-// n without its lowest k bits, one bit at a time.
-fn drop_bits(n: u32, k: u32) -> u32
-    ensures { result ≡ n / 2 ^ k }
-{
-    let mut kept = n;
-    let mut left = k;
-    while 0 < left {
-        kept = kept / 2;
-        left -= 1;
-    }
-    kept
 }

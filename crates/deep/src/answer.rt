@@ -5,7 +5,7 @@
 use entry::Call;
 use rf_call::Slot;
 use slots::{Rack, Turn, Verdict};
-use trace::Parsed;
+use text::Writer;
 
 // What goes on from line to line: the rack, the rows used, and the number of the last line.
 #[derive(Clone, Copy)]
@@ -24,47 +24,30 @@ pub struct Told {
 
 // Where a trace begins.
 pub fn begin() -> Place {
-    let rack = slots::empty();
     Place {
-        rack,
+        rack: slots::empty(),
         used: 0,
         line: 0,
     }
 }
 
-// The first six columns. The replay's line end, behind them, will be written over.
-fn put_front(out: &mut [u8; 2048], line: u64, verdict: Verdict, slot: Slot, used: usize) -> usize {
-    let number = slots::number(verdict);
-    let past = sheet::put_answer(out, 0, line, number, slot, used);
-    if past < 2 {
-        return past;
-    }
-    past - 2
-}
-
 // The columns of what is told and of the settings, each behind a comma.
-fn put_middle(
-    out: &mut [u8; 2048],
-    at: usize,
-    verdict: Verdict,
-    slot: Slot,
-    numbers: &[f32; 7],
-) -> usize {
-    let report = crate::beside::told(verdict);
-    let past = pen::byte(out, at, b',');
-    let past = crate::beside::put_report(out, past, report, numbers);
-    let past = pen::byte(out, past, b',');
-    crate::beside::put_settings(out, past, slot)
+fn put_middle(writer: &mut Writer, verdict: Verdict, slot: Slot, numbers: &[f32; 7]) {
+    pen::byte(writer, b',');
+    crate::beside::put_report(writer, crate::beside::told(verdict), numbers);
+    pen::byte(writer, b',');
+    crate::beside::put_settings(writer, slot);
 }
 
 // The rows of the call, behind a comma, and the line's end.
-fn put_log(out: &mut [u8; 2048], at: usize, log: &[u8], from: usize, used: usize) -> usize {
-    let past = pen::byte(out, at, b',');
-    let past = pen::rows(out, past, log, from, used);
-    pen::bytes(out, past, b"\r\n")
+fn put_log(writer: &mut Writer, log: &[u8], from: usize, used: usize) {
+    pen::byte(writer, b',');
+    pen::rows(writer, log, from, used);
+    pen::bytes(writer, b"\r\n");
 }
 
-// The line of a call. `from` is how many rows were used before it.
+// The line of a call. `from` is how many rows were used before it. The writer is made here, where the buffer's size
+// tells that there is room for the first six columns.
 fn put_call(
     out: &mut [u8; 2048],
     line: u64,
@@ -73,40 +56,26 @@ fn put_call(
     log: &[u8],
     from: usize,
 ) -> usize {
-    let rack = turn.rack;
     let verdict = turn.verdict;
-    let slot = slots::slot_at(rack, 0);
-    let past = put_front(out, line, verdict, slot, turn.used);
-    let past = crate::beside::put_ends(out, past, verdict, slot);
-    let past = put_middle(out, past, verdict, slot, numbers);
-    put_log(out, past, log, from, turn.used)
-}
-
-// The place at the next line.
-fn next(place: Place) -> Place {
-    let rack = place.rack;
-    let line = std::num::wrapping_add_u64(place.line, 1);
-    Place {
-        rack,
-        used: place.used,
-        line,
-    }
-}
-
-// The place after a call.
-fn after(line: u64, turn: Turn) -> Place {
-    let rack = turn.rack;
-    Place {
-        rack,
-        used: turn.used,
-        line,
-    }
+    let slot = slots::slot_at(turn.rack, 0);
+    let mut writer = Writer { out, at: 0 };
+    sheet::put_answer(&mut writer, line, slots::number(verdict), slot, turn.used);
+    // The replay's line end, behind the first six columns, is written over.
+    writer.at = writer.at.saturating_sub(2);
+    crate::beside::put_ends(&mut writer, verdict, slot);
+    put_middle(&mut writer, verdict, slot, numbers);
+    put_log(&mut writer, log, from, turn.used);
+    writer.at
 }
 
 // A line that is no call.
 fn bad(place: Place, out: &mut [u8; 2048]) -> Told {
-    let past = sheet::put_bad(out, 0, place.line);
-    Told { place, past }
+    let mut writer = Writer { out, at: 0 };
+    sheet::put_bad(&mut writer, place.line);
+    Told {
+        place,
+        past: writer.at,
+    }
 }
 
 // A line that is a call.
@@ -114,30 +83,31 @@ fn made(place: Place, call: Call, log: &mut [u8], s: &[u8], out: &mut [u8; 2048]
     let mut numbers = [0.0; 7];
     let turn = crate::line::turn(place.rack, call, log, place.used, s, &mut numbers);
     let past = put_call(out, place.line, turn, &numbers, log, place.used);
-    let place = after(place.line, turn);
+    let place = Place {
+        rack: turn.rack,
+        used: turn.used,
+        line: place.line,
+    };
     Told { place, past }
 }
 
 // A line of a trace.
 fn answer(place: Place, log: &mut [u8], s: &[u8], out: &mut [u8; 2048]) -> Told {
-    let place = next(place);
-    let parsed = crate::line::parse(s);
-    let Parsed::Call(call) = parsed else {
-        return bad(place, out);
-    };
-    made(place, call, log, s, out)
+    let line = place.line.wrapping_add(1);
+    let place = Place { line, ..place };
+    match crate::line::parse(s) {
+        Some(call) => made(place, call, log, s, out),
+        None => bad(place, out),
+    }
 }
 
 // A line whose first bytes are `tick` is the header of a new trace.
-fn is_header(s: &[u8]) -> bool {
-    let first = line_hold::front(s, 4);
-    check::same(first, b"tick")
-}
-
 pub fn pass(place: Place, log: &mut [u8], s: &[u8], out: &mut [u8; 2048]) -> Told {
-    if is_header(s) {
-        let place = begin();
-        return Told { place, past: 0 };
+    if s.starts_with(b"tick") {
+        return Told {
+            place: begin(),
+            past: 0,
+        };
     }
     answer(place, log, s, out)
 }

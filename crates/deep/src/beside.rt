@@ -2,105 +2,83 @@
 use rf_call::{Answer, ChannelStatus, PowerStatus, Report, Slot};
 use rf_channel::{ChannelSettings, ChannelState, States};
 use slots::Verdict;
+use text::Writer;
 
 // The cause of a halt, or nothing.
-fn put_cause(out: &mut [u8], at: usize, verdict: Verdict) -> usize {
+fn put_cause(writer: &mut Writer, verdict: Verdict) {
     let cause = slots::cause_beside(verdict);
-    if cause == 0 {
-        return at;
+    if cause != 0 {
+        pen::decimal(writer, cause as u64);
     }
-    pen::decimal(out, at, cause as u64)
 }
 
-// The tick until which a channel powers up or down, or none.
-#[derive(Clone, Copy)]
-pub enum Deadline {
-    At(u64),
-    Not,
-}
-
-fn deadline_of(slot: Slot) -> Deadline {
+// The tick until which a channel powers up or down.
+fn deadline_of(slot: Slot) -> Option<u32> {
     let Slot::Channel(channel) = slot else {
-        return Deadline::Not;
+        return None;
     };
-    let state = channel.state;
-    if let States::Powerup(tick) = state {
-        return Deadline::At(tick as u64);
+    match channel.state {
+        States::Powerup(tick) | States::Powerdown(tick) => Some(tick),
+        _ => None,
     }
-    if let States::Powerdown(tick) = state {
-        return Deadline::At(tick as u64);
-    }
-    Deadline::Not
 }
 
-fn put_deadline(out: &mut [u8], at: usize, slot: Slot) -> usize {
-    let deadline = deadline_of(slot);
-    let Deadline::At(tick) = deadline else {
-        return at;
-    };
-    pen::decimal(out, at, tick)
+fn put_deadline(writer: &mut Writer, slot: Slot) {
+    if let Some(tick) = deadline_of(slot) {
+        pen::decimal(writer, tick as u64);
+    }
 }
 
 // The columns of cause and deadline, each behind a comma.
-pub fn put_ends(out: &mut [u8], at: usize, verdict: Verdict, slot: Slot) -> usize {
-    let past = pen::byte(out, at, b',');
-    let past = put_cause(out, past, verdict);
-    let past = pen::byte(out, past, b',');
-    put_deadline(out, past, slot)
+pub fn put_ends(writer: &mut Writer, verdict: Verdict, slot: Slot) {
+    pen::byte(writer, b',');
+    put_cause(writer, verdict);
+    pen::byte(writer, b',');
+    put_deadline(writer, slot);
 }
 
-fn put_flags(out: &mut [u8], at: usize, first: bool, second: bool, third: bool) -> usize {
-    let past = pen::flag(out, at, first);
-    let past = pen::flag(out, past, second);
-    pen::flag(out, past, third)
+fn put_flags(writer: &mut Writer, first: bool, second: bool, third: bool) {
+    pen::flag(writer, first);
+    pen::flag(writer, second);
+    pen::flag(writer, third);
 }
 
 // The name of a state, where there is room for the longest.
-fn put_state(out: &mut [u8; 2048], at: usize, state: States) -> usize {
-    if 2023 < at {
-        return at;
+fn put_state(writer: &mut Writer, state: States) {
+    if writer.at.saturating_add(25) <= writer.out.len() {
+        state_name::put_state(writer, state);
     }
-    state_name::put_state(out, at, state)
 }
 
-fn put_status(out: &mut [u8; 2048], at: usize, s: ChannelStatus, numbers: &[f32; 7]) -> usize {
-    let state = s.state;
-    let past = put_state(out, at, state);
-    let past = pen::byte(out, past, b',');
-    let past = put_flags(
-        out,
-        past,
-        s.reflected_overdrive,
-        s.output_overdrive,
-        s.alert,
-    );
-    let past = pen::byte(out, past, b',');
-    pen::floats(out, past, numbers)
+fn put_status(writer: &mut Writer, s: ChannelStatus, numbers: &[f32; 7]) {
+    put_state(writer, s.state);
+    pen::byte(writer, b',');
+    put_flags(writer, s.reflected_overdrive, s.output_overdrive, s.alert);
+    pen::byte(writer, b',');
+    pen::floats(writer, numbers);
 }
 
-fn put_power(out: &mut [u8], at: usize, p: PowerStatus) -> usize {
-    let past = pen::byte(out, at, b',');
-    let past = put_flags(out, past, p.powered, p.rf_disabled, p.blocked);
-    pen::byte(out, past, b',')
+fn put_power(writer: &mut Writer, p: PowerStatus) {
+    pen::byte(writer, b',');
+    put_flags(writer, p.powered, p.rf_disabled, p.blocked);
+    pen::byte(writer, b',');
 }
 
 // The report of a call. One that is not done reports nothing.
 pub fn told(verdict: Verdict) -> Report {
-    if let Verdict::Answered(answer) = verdict {
-        if let Answer::Done(report) = answer {
-            return report;
-        }
+    match verdict {
+        Verdict::Answered(Answer::Done(report)) => report,
+        _ => Report::Plain,
     }
-    Report::Plain
 }
 
 // The three columns of the state told, the flags and the numbers, with the commas between them: an update tells its
 // flags, a status all three.
-pub fn put_report(out: &mut [u8; 2048], at: usize, report: Report, numbers: &[f32; 7]) -> usize {
+pub fn put_report(writer: &mut Writer, report: Report, numbers: &[f32; 7]) {
     match report {
-        Report::Plain => pen::bytes(out, at, b",,"),
-        Report::Power(p) => put_power(out, at, p),
-        Report::Status(s) => put_status(out, at, s, numbers),
+        Report::Plain => pen::bytes(writer, b",,"),
+        Report::Power(p) => put_power(writer, p),
+        Report::Status(s) => put_status(writer, s, numbers),
     }
 }
 
@@ -112,30 +90,24 @@ fn digit(wanted: ChannelState) -> u8 {
     }
 }
 
-fn put_fields(out: &mut [u8], at: usize, s: ChannelSettings) -> usize {
-    let input = s.input_power_transform;
-    let output = s.output_power_transform;
-    let reflected = s.reflected_power_transform;
-    let wanted = s.state;
+fn put_fields(writer: &mut Writer, s: ChannelSettings) {
     let fields = [
         s.output_interlock_threshold,
         s.bias_voltage,
-        input.slope,
-        input.offset,
-        output.slope,
-        output.offset,
-        reflected.slope,
-        reflected.offset,
+        s.input_power_transform.slope,
+        s.input_power_transform.offset,
+        s.output_power_transform.slope,
+        s.output_power_transform.offset,
+        s.reflected_power_transform.slope,
+        s.reflected_power_transform.offset,
     ];
-    let past = pen::floats(out, at, &fields);
-    pen::byte(out, past, digit(wanted))
+    pen::floats(writer, &fields);
+    pen::byte(writer, digit(s.state));
 }
 
 // The settings in force, as a trace writes them, or nothing.
-pub fn put_settings(out: &mut [u8], at: usize, slot: Slot) -> usize {
-    let Slot::Channel(channel) = slot else {
-        return at;
-    };
-    let settings = channel.settings;
-    put_fields(out, at, settings)
+pub fn put_settings(writer: &mut Writer, slot: Slot) {
+    if let Slot::Channel(channel) = slot {
+        put_fields(writer, channel.settings);
+    }
 }

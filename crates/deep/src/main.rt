@@ -4,59 +4,22 @@
 
 mod answer;
 mod beside;
-mod feed;
 mod line;
 
-use crate::feed::Reading;
-use std::io::{Read, Stdin};
-
-// The number of the standard error.
-const STDERR: i32 = 2;
-
-// What a read gives, as a number: how many bytes came, or -1 where it failed.
-fn got(input: &mut Stdin, chunk: &mut [u8]) -> isize {
-    match input.read(chunk) {
-        Ok(n) => n as isize,
-        Err(_) => -1,
-    }
-}
-
-// Reads a chunk and does its lines.
-fn turn(
-    input: &mut Stdin,
-    reading: Reading,
-    log: &mut [u8],
-    hold: &mut [u8; 514],
-    chunk: &mut [u8],
-) -> Reading {
-    let came = got(input, chunk);
-    if came < 0 {
-        io::write_all(STDERR, b"The lines cannot be read.\n");
-        return feed::ended(reading);
-    }
-    let n = io::count(came, chunk);
-    let part = line_hold::front(chunk, n);
-    feed::take(reading, log, hold, part)
-}
-
-// A proved loop has to end, and nothing says that the input does: so the turns are counted down, from a number that
-// no run uses up.
-fn turns(input: &mut Stdin, log: &mut [u8], hold: &mut [u8; 514], chunk: &mut [u8]) {
-    let mut reading = feed::begin();
-    let mut left = u64::MAX;
-    while 0 < left {
-        left -= 1;
-        reading = turn(input, reading, log, hold, chunk);
-        if !reading.more {
-            return;
-        }
-    }
-}
+use line_answers::Broken;
+use std::io;
 
 fn main(rt: HostRuntime) {
-    let mut input = rt.stdin();
     let mut log = [0u8; 65536];
-    let mut hold = [0u8; 514];
-    let mut chunk = [0u8; 65536];
-    turns(&mut input, &mut log, &mut hold, &mut chunk);
+    let mut place = answer::begin();
+    let made = line_answers::answer_lines(&mut rt.stdin(), &mut io::writer(&rt), |line, out| {
+        let told = answer::pass(place, &mut log, line, out);
+        place = told.place;
+        told.past
+    });
+    let _told = match made {
+        Ok(()) => Ok(()),
+        Err(Broken::Input) => eprintln!(rt; "The lines cannot be read."),
+        Err(Broken::Answers) => eprintln!(rt; "The answers cannot be written."),
+    };
 }

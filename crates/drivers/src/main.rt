@@ -2,12 +2,11 @@
 // limits of the room, and prints the answers and the rows.
 #![tactic(auto)]
 
+mod answer;
 mod cases;
-mod chips;
 mod edges;
 mod entry;
 mod lent;
-mod monitor;
 mod room;
 mod show;
 

@@ -1,4 +1,5 @@
-// Printing. Hex digits are small.
+// Printing. Hex digits are small. What `drivers` and `bay` print by stands in each: a library's public function
+// has a promise, and no clause can say what is printed.
 
 // The number of the standard output.
 const STDOUT: i32 = 1;
@@ -10,9 +11,16 @@ pub fn text(s: &[u8]) {
     io::write_all(STDOUT, s);
 }
 
+// A number in decimal, after a space.
+pub fn number(n: u64) {
+    text(b" ");
+    io::print_decimal(STDOUT, n);
+}
+
+// The pattern of a float, after a space.
 pub fn pattern_of(bits: u32) {
     text(b" ");
-    io::print_hex(STDOUT, bits as u64, 8);
+    io::print_hex(STDOUT, u64::from(bits), 8);
 }
 
 // A float as its pattern, after a space.
@@ -20,49 +28,38 @@ pub fn float(x: f32) {
     pattern_of(pattern::to_pattern(x));
 }
 
-pub fn number(n: u64) {
-    text(b" ");
-    io::print_decimal(STDOUT, n);
+fn row(bytes: &[u8]) {
+    text(b"  ");
+    for b in bytes {
+        io::print_hex(STDOUT, u64::from(*b), 2);
+    }
+    text(b"\n");
 }
 
-// A byte of a row, by its place there.
-fn byte(place: usize, b: u8) {
-    if place == 0 {
-        text(b"  ");
-    }
-    io::print_hex(STDOUT, b as u64, 2);
-    if place == 15 {
-        text(b"\n");
-    }
-}
-
-// A byte past the rows, which has to be as it was.
-fn kept(b: u8) {
-    if b != FRESH {
-        text(b"  a byte past the rows was changed\n");
+// The bytes past the rows, which have to be as they were.
+fn kept(bytes: &[u8]) {
+    for b in bytes {
+        if *b != FRESH {
+            text(b"  a byte past the rows was changed\n");
+        }
     }
 }
 
 // The rows from number `from` up to number `used`; and that the log past them is untouched.
 fn rows(log: &[u8], from: usize, used: usize) {
-    let mut i = 0;
-    while i < log.len() {
-        let b = log[i];
-        let row = i / 16;
-        let place = i % 16;
-        if used <= row {
-            kept(b);
-        } else if from <= row {
-            byte(place, b);
+    for (number, bytes) in log.chunks(16).enumerate() {
+        if used <= number {
+            kept(bytes);
+        } else if from <= number {
+            row(bytes);
         }
-        i += 1;
     }
 }
 
 // The answer's number, before what it carries.
 pub fn answer(number: u8) {
     text(b": answer ");
-    io::print_decimal(STDOUT, number as u64);
+    io::print_decimal(STDOUT, u64::from(number));
 }
 
 // The end of an answer: the count, and the rows that were added.

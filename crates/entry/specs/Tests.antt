@@ -1,12 +1,9 @@
 -- The answers 1 to 8: tests in the order of document 01's table. The first that applies is given, and not otherwise. Definitions only.
-use Rattle.std.specs.Prelude.{ℕ, ◌-◌, ◌*◌, ◌/◌, Bool, true, false, not, ◌&&◌, cond, List, [], ◌∷◌, ◌++◌, leb, ltb}
+use Rattle.std.specs.Prelude.{ℕ, ◌-◌, ◌*◌, ◌/◌, Bool, true, false, not, ◌&&◌, cond, List, [], ◌∷◌, ◌++◌, leb, ltb, Option, Some, None, Result, Ok, Err, Float}
 use Rattle.std.specs.Float.Ieee.Scale.{finite}
 use Rattle.gate.specs.Gate.{rows, transfers}
-use Rattle.rf_call.specs.declared.Givens.{Givens}
 use Rattle.rf_call.specs.declared.Slot.{Slot}
 use Rattle.rf_call.specs.declared.Slot.TheVariants as S
-use Rattle.rf_call.specs.declared.Temperature.{Temperature}
-use Rattle.rf_call.specs.declared.Temperature.TheVariants as D
 use Rattle.rf_calls.specs.declared.Request.{Request}
 use Rattle.rf_calls.specs.declared.Request.TheVariants as R
 use Rattle.rf_calls.specs.Requests.{places}
@@ -16,8 +13,6 @@ use Rattle.entry.specs.declared.Refusal.{Refusal}
 use Rattle.entry.specs.declared.Refusal.TheVariants as No
 use Rattle.entry.specs.declared.Admitted.{Admitted}
 use Rattle.entry.specs.declared.Admitted.TheVariants as In
-use Rattle.entry.specs.declared.Entry.{Entry}
-use Rattle.entry.specs.declared.Entry.TheVariants.{Open, Shut}
 
 -- ---- what is asked
 
@@ -49,9 +44,9 @@ looks (R.Settings s) = false
 looks (R.Status d) = true
 
 -- a temperature that is given is a finite number
-abbrev pub temperature_fits : Temperature → Bool
-temperature_fits (D.Celsius degrees) = finite degrees
-temperature_fits D.Failed = true
+abbrev pub temperature_fits : Option Float → Bool
+temperature_fits (Some degrees) = finite degrees
+temperature_fits None = true
 
 abbrev pub unfit : Call → Bool
 unfit (Start settings present) = false
@@ -74,22 +69,22 @@ abbrev pub ◌gives◌ : Bool → Refusal → Test
 b gives r = record { applies = b; refusal = r }
 
 -- the first that applies; e where none does
-abbrev pub first_of : List Test → Entry → Entry
+abbrev pub first_of : {A : Type 0} → List Test → Result A Refusal → Result A Refusal
 first_of [] e = e
-first_of (t ∷ more) e = cond t.applies (Shut t.refusal) (first_of more e)
+first_of (t ∷ more) e = cond t.applies (Err t.refusal) (first_of more e)
 
 -- 1: the slot is above 7
 abbrev pub of_number : ℕ → List Test
 of_number slot = (leb 8 slot gives No.Slot) ∷ []
 
 -- 2, 3, 4: a request of an empty slot; of one that was halted earlier; a start of one that holds a channel. Any other call finds what it is for, and is let in if none of the further tests applies.
-abbrev pub of_standing : Slot → Call → List Test → Entry
-of_standing S.Empty (Ask request givens) further = Shut No.Empty
-of_standing (S.Halted cause) (Ask request givens) further = Shut No.Halted
-of_standing (S.Channel c) (Start settings present) further = Shut No.Taken
-of_standing S.Empty (Start settings present) further = first_of further (Open (In.Start settings present))
-of_standing (S.Halted cause) (Start settings present) further = first_of further (Open (In.Start settings present))
-of_standing (S.Channel c) (Ask request givens) further = first_of further (Open (In.Ask c request givens))
+abbrev pub of_standing : Slot → Call → List Test → Result Admitted Refusal
+of_standing S.Empty (Ask request givens) further = Err No.Empty
+of_standing (S.Halted cause) (Ask request givens) further = Err No.Halted
+of_standing (S.Channel c) (Start settings present) further = Err No.Taken
+of_standing S.Empty (Start settings present) further = first_of further (Ok (In.Start settings present))
+of_standing (S.Halted cause) (Start settings present) further = first_of further (Ok (In.Start settings present))
+of_standing (S.Channel c) (Ask request givens) further = first_of further (Ok (In.Ask c request givens))
 
 -- 5, 6: fewer than 20 rows of the log are free; fewer than 135 bytes of replies
 abbrev pub of_room : ℕ → ℕ → List Test
@@ -100,7 +95,7 @@ abbrev pub of_given : Call → ℕ → List Test
 of_given call numbers = (short call numbers gives No.Numbers) ∷ (unfit call gives No.Temperature) ∷ []
 
 -- all of them: the slot's number and what stands in it, the call, the rows free, and the lengths of the replies and of the number slice
-abbrev pub entry_of : ℕ → Slot → Call → ℕ → ℕ → ℕ → Entry
+abbrev pub entry_of : ℕ → Slot → Call → ℕ → ℕ → ℕ → Result Admitted Refusal
 entry_of slot standing call free replies numbers = first_of (of_number slot) (of_standing standing call (of_room free replies ++ of_given call numbers))
 
 -- document 01's number of each refusal

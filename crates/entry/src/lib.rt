@@ -6,8 +6,8 @@ ghost use Rattle.std.specs.Prelude.{◌≡◌, []};
 ghost use Rattle.std.specs.Float.Ieee.Scale.{finite};
 ghost use Rattle.entry.specs.Tests.{free_rows, of_standing, of_room, of_given, temperature_fits, first_of, entry_of, number_of};
 
-use gate::{Bar, Gate};
-use rf_call::{Givens, Slot, Temperature};
+use gate::Bar;
+use rf_call::{Givens, Slot};
 use rf_calls::Request;
 use rf_channel::{ChannelSettings, RfChannel};
 
@@ -39,85 +39,32 @@ pub enum Admitted {
     Ask(RfChannel, Request, Givens),
 }
 
-// Let in; or not, and why.
-#[derive(Clone, Copy)]
-pub enum Entry {
-    Open(Admitted),
-    Shut(Refusal),
-}
-
-fn shut(refusal: Refusal) -> Entry
-    ensures { result ≡ Entry.Shut refusal }
-{
-    Entry::Shut(refusal)
-}
-
-// A start is for a slot without a channel.
-fn start_of(slot: Slot, settings: ChannelSettings, present: bool) -> Entry
-    ensures { result ≡ of_standing slot (Call.Start settings present) [] }
-{
-    let admitted = Admitted::Start(settings, present);
-    match slot {
-        Slot::Empty => Entry::Open(admitted),
-        Slot::Halted(_) => Entry::Open(admitted),
-        Slot::Channel(_) => {
-            let refusal = Refusal::Taken;
-            shut(refusal)
-        }
-    }
-}
-
-// A request is for a channel.
-fn request_of(slot: Slot, request: Request, givens: Givens) -> Entry
-    ensures { result ≡ of_standing slot (Call.Ask request givens) [] }
-{
-    match slot {
-        Slot::Empty => {
-            let refusal = Refusal::Empty;
-            shut(refusal)
-        }
-        Slot::Halted(_) => {
-            let refusal = Refusal::Halted;
-            shut(refusal)
-        }
-        Slot::Channel(channel) => {
-            let admitted = Admitted::Ask(channel, request, givens);
-            Entry::Open(admitted)
-        }
-    }
-}
-
-// What a call finds in the slot.
-fn of_standing(slot: Slot, call: Call) -> Entry
+// What a call finds in the slot: a start is for a slot without a channel, a request for a channel.
+fn of_standing(slot: Slot, call: Call) -> Result<Admitted, Refusal>
     ensures { result ≡ of_standing slot call [] }
 {
-    match call {
-        Call::Start(settings, present) => start_of(slot, settings, present),
-        Call::Ask(request, givens) => request_of(slot, request, givens),
+    match (call, slot) {
+        (Call::Start(_, _), Slot::Channel(_)) => Err(Refusal::Taken),
+        (Call::Start(settings, present), Slot::Empty | Slot::Halted(_)) => {
+            Ok(Admitted::Start(settings, present))
+        }
+        (Call::Ask(_, _), Slot::Empty) => Err(Refusal::Empty),
+        (Call::Ask(_, _), Slot::Halted(_)) => Err(Refusal::Halted),
+        (Call::Ask(request, givens), Slot::Channel(channel)) => {
+            Ok(Admitted::Ask(channel, request, givens))
+        }
     }
 }
 
-// What was found, if the gate of a call to one of the eight slots is open.
-fn of_room(found: Entry, slot: u8, used: usize, log: usize, replies: usize) -> Entry
-    ensures { result ≡ first_of (of_room (free_rows used log) replies) found }
+// Whether the gate of a call to one of the eight slots is open.
+fn of_room(slot: u8, used: usize, log: usize, replies: usize) -> Result<(), Refusal>
+    ensures { result ≡ first_of (of_room (free_rows used log) replies) (Ok tt) }
 {
-    let gate = gate::room_of(slot, used, log, replies);
-    match gate {
-        Gate::Open(_) => found,
-        Gate::Shut(bar) => match bar {
-            Bar::Slot => {
-                let refusal = Refusal::Slot;
-                shut(refusal)
-            }
-            Bar::Log => {
-                let refusal = Refusal::Log;
-                shut(refusal)
-            }
-            Bar::Replies => {
-                let refusal = Refusal::Replies;
-                shut(refusal)
-            }
-        },
+    match gate::room_of(slot, used, log, replies) {
+        Ok(_) => Ok(()),
+        Err(Bar::Slot) => Err(Refusal::Slot),
+        Err(Bar::Log) => Err(Refusal::Log),
+        Err(Bar::Replies) => Err(Refusal::Replies),
     }
 }
 
@@ -126,54 +73,29 @@ fn is_finite(x: f32) -> bool
     ensures { result ≡ finite x }
 {
     let infinity = 1.0 / 0.0;
-    if x < infinity { -infinity < x } else { false }
+    x < infinity && -infinity < x
 }
 
 // A temperature that is given is a number.
-fn temperature_fits(temperature: Temperature) -> bool
+fn temperature_fits(temperature: Option<f32>) -> bool
     ensures { result ≡ temperature_fits temperature }
 {
     match temperature {
-        Temperature::Celsius(degrees) => is_finite(degrees),
-        Temperature::Failed => true,
+        Some(degrees) => is_finite(degrees),
+        None => true,
     }
 }
 
-// What was found, if there are seven places for a status, and if the temperature that an update or
-// a status is given is a number.
-fn of_given(found: Entry, call: Call, numbers: usize) -> Entry
-    ensures { result ≡ first_of (of_given call numbers) found }
+// Whether there are seven places for a status, and whether the temperature that an update or a status is
+// given is a number.
+fn of_given(call: Call, numbers: usize) -> Result<(), Refusal>
+    ensures { result ≡ first_of (of_given call numbers) (Ok tt) }
 {
     match call {
-        Call::Start(_, _) => found,
-        Call::Ask(request, givens) => {
-            let temperature = givens.temperature;
-            let fits = temperature_fits(temperature);
-            match request {
-                Request::Startup => found,
-                Request::Update => {
-                    if fits {
-                        return found;
-                    }
-                    let refusal = Refusal::Temperature;
-                    shut(refusal)
-                }
-                Request::Reset => found,
-                Request::Standby => found,
-                Request::Settings(_) => found,
-                Request::Status(_) => {
-                    if numbers < 7 {
-                        let refusal = Refusal::Numbers;
-                        return shut(refusal);
-                    }
-                    if fits {
-                        return found;
-                    }
-                    let refusal = Refusal::Temperature;
-                    shut(refusal)
-                }
-            }
-        }
+        Call::Ask(Request::Status(_), _) if numbers < 7 => Err(Refusal::Numbers),
+        Call::Ask(Request::Update | Request::Status(_), givens)
+            if !temperature_fits(givens.temperature) => Err(Refusal::Temperature),
+        _ => Ok(()),
     }
 }
 
@@ -186,22 +108,16 @@ pub fn entry_of(
     log: usize,
     replies: usize,
     numbers: usize,
-) -> Entry
+) -> Result<Admitted, Refusal>
     ensures { result ≡ entry_of slot standing call (free_rows used log) replies numbers }
 {
     if 8 <= slot {
-        let refusal = Refusal::Slot;
-        return shut(refusal);
+        return Err(Refusal::Slot);
     }
-    let found = of_standing(standing, call);
-    let Entry::Open(_) = found else {
-        return found;
-    };
-    let roomy = of_room(found, slot, used, log, replies);
-    let Entry::Open(_) = roomy else {
-        return roomy;
-    };
-    of_given(roomy, call, numbers)
+    let admitted = of_standing(standing, call)?;
+    of_room(slot, used, log, replies)?;
+    of_given(call, numbers)?;
+    Ok(admitted)
 }
 
 // The number of a refusal.

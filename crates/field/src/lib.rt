@@ -1,120 +1,73 @@
 // The numbers in the fields of one line of a replay trace, read from their bytes. What does not fit
-// answers `Not`, so no public function asks anything of its caller.
+// is `None`, so no public function asks anything of its caller.
 #![tactic(auto)]
 
-ghost use Rattle.std.specs.Prelude.{◌≡◌, [], ◌∷◌, ◌<◌, ◌^◌};
-ghost use Rattle.field.specs.Field.{decimal_from, decimal_of, word_from, word_of, float_of};
+ghost use Rattle.std.specs.Prelude.{◌≡◌, [], ◌∷◌};
+ghost use Rattle.field.specs.Field.{digit_of, number_from, decimal_of, word_of, float_of};
 
-// A number of 32 bits, or no number.
-#[derive(Clone, Copy)]
-pub enum Number {
-    Is(u32),
-    Not,
-}
-
-// A float, or none.
-#[derive(Clone, Copy)]
-pub enum Real {
-    Is(f32),
-    Not,
-}
-
-// n with one decimal digit more. The sum is made in 64 bits, where it can't wrap, and tested there.
-fn and_digit(n: u32, b: u8) -> Number
-    ensures { result ≡ decimal_from n (b ∷ []) }
+// What a hex digit counts. The letters are capitals.
+pub fn hex_digit(b: u8) -> Option<u8>
+    ensures { result ≡ digit_of b }
 {
-    if b < b'0' {
-        return Number::Not;
+    match b {
+        b'0'..=b'9' => Some(b - b'0'),
+        // A counts 10.
+        b'A'..=b'F' => Some(b - 55),
+        _ => None,
     }
-    if b'9' < b {
-        return Number::Not;
+}
+
+// n with one digit more. The sum is made in 64 bits, where it can't wrap, and tested there.
+fn and_digit(base: u8, n: u32, b: u8) -> Option<u32>
+    ensures { result ≡ number_from base n (b ∷ []) }
+{
+    let digit = hex_digit(b)?;
+    if base <= digit {
+        return None;
     }
-    let digit = b - b'0';
-    let next = 10 * (n as u64) + (digit as u64);
+    let next = base as u64 * n as u64 + digit as u64;
     if next < 0x1_0000_0000 {
-        let fits = next as u32;
-        Number::Is(fits)
+        Some(next as u32)
     } else {
-        Number::Not
+        None
     }
+}
+
+// The number that these digits write in a base.
+fn number(base: u8, s: &[u8]) -> Option<u32>
+    ensures { result ≡ number_from base 0 s.now }
+{
+    let mut n = 0;
+    for b in s {
+        n = and_digit(base, n, *b)?;
+    }
+    Some(n)
 }
 
 // A tick.
-pub fn decimal(s: &[u8]) -> Number
+pub fn decimal(s: &[u8]) -> Option<u32>
     ensures { result ≡ decimal_of s.now }
 {
-    // No digits are no number, though the loop would make 0 of them.
-    if s.len() == 0 {
-        return Number::Not;
+    // No digits are no number, though `number` would make 0 of them.
+    if s.is_empty() {
+        return None;
     }
-    let mut n: u32 = 0;
-    let mut i = 0;
-    while i < s.len() {
-        let b = s[i];
-        let next = and_digit(n, b);
-        let Number::Is(more) = next else {
-            return Number::Not;
-        };
-        n = more;
-        i += 1;
-    }
-    Number::Is(n)
-}
-
-// n with one hex digit more: there is room for its four bits.
-fn and_hex(n: u32, b: u8) -> Number
-    requires { n < 2 ^ 28 }
-    ensures { result ≡ word_from n (b ∷ []) }
-{
-    if b < b'0' {
-        return Number::Not;
-    }
-    if b <= b'9' {
-        let digit = b - b'0';
-        let with_digit = 16 * n + (digit as u32);
-        return Number::Is(with_digit);
-    }
-    if b < b'A' {
-        return Number::Not;
-    }
-    if b <= b'F' {
-        // A counts 10.
-        let letter = b - 55;
-        let with_letter = 16 * n + (letter as u32);
-        return Number::Is(with_letter);
-    }
-    Number::Not
+    number(10, s)
 }
 
 // 8 hex digits. Fewer or more are no word, so that each digit has its place.
-pub fn word(s: &[u8]) -> Number
+pub fn word(s: &[u8]) -> Option<u32>
     ensures { result ≡ word_of s.now }
 {
     if s.len() != 8 {
-        return Number::Not;
+        return None;
     }
-    let mut n: u32 = 0;
-    let mut i = 0;
-    while i < s.len() {
-        let b = s[i];
-        let next = and_hex(n, b);
-        let Number::Is(more) = next else {
-            return Number::Not;
-        };
-        n = more;
-        i += 1;
-    }
-    Number::Is(n)
+    number(16, s)
 }
 
 // The float whose pattern the word is.
-pub fn float(s: &[u8]) -> Real
+pub fn float(s: &[u8]) -> Option<f32>
     ensures { result ≡ float_of s.now }
 {
-    let read = word(s);
-    let Number::Is(bits) = read else {
-        return Real::Not;
-    };
-    let x = pattern::of_pattern(bits);
-    Real::Is(x)
+    Some(pattern::of_pattern(word(s)?))
 }

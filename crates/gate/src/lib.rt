@@ -2,10 +2,10 @@
 // let in touches the log.
 #![tactic(auto)]
 
-ghost use Rattle.std.specs.Prelude.{◌≡◌};
-ghost use Rattle.gate.specs.Gate.{room_of, gate_of, number_of};
+ghost use Rattle.std.specs.Prelude.{◌≡◌, ℕ};
+ghost use Rattle.gate.specs.Gate.{room_of, gate_of, number_of, failed_number, error_number, answer_number};
 
-use bus::Cursor;
+use bus::{Cursor, Error, Failed};
 
 // The rows that must be free, and the reply bytes that must be there, for any call.
 pub const FREE_ROWS: usize = 20;
@@ -20,57 +20,91 @@ pub enum Bar {
     Replies,
 }
 
-// Let in, at this cursor; or not, and why.
+// What a driver that is called by itself gives back: what it answers, or why it is not let in; and the rows used.
 #[derive(Clone, Copy)]
-pub enum Gate {
-    Open(Cursor),
-    Shut(Bar),
+pub struct Told<T> {
+    pub answer: Result<T, Bar>,
+    pub used: usize,
 }
 
 // The room of a call: of the log's whole rows that many are free, and the replies are long enough. A
 // count past the log's end leaves no row free, however large it is.
-pub fn room_of(slot: u8, used: usize, log: usize, replies: usize) -> Gate
+pub fn room_of(slot: u8, used: usize, log: usize, replies: usize) -> Result<Cursor, Bar>
     ensures { result ≡ room_of slot used log replies }
 {
     let rows = log / 16;
     if rows < FREE_ROWS {
-        let bar = Bar::Log;
-        return Gate::Shut(bar);
+        return Err(Bar::Log);
     }
     if rows - FREE_ROWS < used {
-        let bar = Bar::Log;
-        return Gate::Shut(bar);
+        return Err(Bar::Log);
     }
     if replies < REPLY_BYTES {
-        let bar = Bar::Replies;
-        return Gate::Shut(bar);
+        return Err(Bar::Replies);
     }
-    let at = Cursor {
+    Ok(Cursor {
         slot,
         used,
         taken: 0,
-    };
-    Gate::Open(at)
+    })
 }
 
 // The gate of a driver that is called by itself: the slot, then the room.
-pub fn gate_of(slot: u8, used: usize, log: usize, replies: usize) -> Gate
+pub fn gate_of(slot: u8, used: usize, log: usize, replies: usize) -> Result<Cursor, Bar>
     ensures { result ≡ gate_of slot used log replies }
 {
     if 8 <= slot {
-        let bar = Bar::Slot;
-        return Gate::Shut(bar);
+        return Err(Bar::Slot);
     }
     room_of(slot, used, log, replies)
 }
 
-// The number of a refusal.
-pub fn number(bar: Bar) -> u8
-    ensures { result ≡ number_of bar }
+// What has a number in an answer: why something was not done.
+pub trait Numbered {
+    ghost number_is: { Self → ℕ };
+
+    fn number(self) -> u8
+        ensures { result ≡ number_is self };
+}
+
+impl Numbered for Bar {
+    ghost number_is = { number_of };
+
+    fn number(self) -> u8 {
+        match self {
+            Bar::Slot => 1,
+            Bar::Log => 5,
+            Bar::Replies => 6,
+        }
+    }
+}
+
+impl Numbered for Failed {
+    ghost number_is = { failed_number };
+
+    fn number(self) -> u8 {
+        12
+    }
+}
+
+impl Numbered for Error {
+    ghost number_is = { error_number };
+
+    fn number(self) -> u8 {
+        match self {
+            Error::Range => 11,
+            Error::Bus => 12,
+        }
+    }
+}
+
+// The number of a driver's answer: 0 where all was done.
+pub fn number<T: Drop, E: Numbered>(answer: Result<Result<T, E>, Bar>) -> u8
+    ensures { result ≡ answer_number E.number_is answer }
 {
-    match bar {
-        Bar::Slot => 1,
-        Bar::Log => 5,
-        Bar::Replies => 6,
+    match answer {
+        Ok(Ok(_)) => 0,
+        Ok(Err(error)) => error.number(),
+        Err(bar) => bar.number(),
     }
 }

@@ -21,9 +21,7 @@ pub fn call_in_place(
 ) -> Stepped
     ensures { Steps (stepped place.slot bay.old.slot call (free_rows place.used (length log.old)) replies.now numbers.old) place.used log.old result log.new numbers.new × (bay.new.slot ≡ result.standing) }
 {
-    let b = *bay;
-    let stepped = slot_call::bay_step(log, replies, numbers, place, b, call);
-    let n = slot_call::bay_after(stepped);
-    *bay = n;
+    let stepped = slot_call::step(log, replies, numbers, place, bay.slot, call);
+    bay.slot = stepped.standing;
     stepped
 }

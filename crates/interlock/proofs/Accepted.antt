@@ -1,4 +1,5 @@
 -- What the ad5627's conversion answers to a number of volts, by its sign and its steps (`outcome`), to an infinity (`infinite`) and to a NaN (`not_a_number`). Assumes nothing.
+use Rattle.std.specs.Prelude.{Option, Some, None}
 use mathlib.Core.Path.{◌≡◌, refl, sym, ◌∙◌, subst}
 use mathlib.Core.Logic.{◌⊎◌, inl, inr}
 use Prim.Native.Nat.{ℕ, ◌*◌, ◌/◌, ◌^◌, ◌≤◌, ◌<◌, min, zero-le}
@@ -15,8 +16,6 @@ use borrow.Author.Tests.{le-leb, lt-leb}
 use Rattle.steps.specs.Steps.{unit, magnitude, negative, IsNumber}
 use Rattle.steps.proofs.Round.{grid_mono}
 use Rattle.steps.proofs.Compare.{steps_of_le, le_of_steps, at_least_zero, minus_zero, negative_le}
-use Rattle.conversions.specs.declared.Conversion.{Conversion}
-use Rattle.conversions.specs.declared.Conversion.TheVariants.{Code, Range}
 use Rattle.conversions.specs.Constants.{zero, v2_5}
 use Rattle.conversions.specs.Codes.{code_of, ad5627_code}
 use Rattle.conversions.proofs.Cuts.{share, scale_2_5, code_at, code_below, zero_is}
@@ -42,17 +41,17 @@ zero_steps : magnitude zero ≡ 0
 unfolding of_bits magnitude
 zero_steps = refl
 
-pub data Outcome (v : Float) : Conversion → Type 0 where
+pub data Outcome (v : Float) : Option ℕ → Type 0 where
   -- from 0 to 2.5: the whole part of 4096 shares
-  sent : negative v ≡ false → magnitude v ≤ 5 * half → share v2_5 v ≤ unit → (c : ℕ) → c ≡ share v2_5 v * 2 ^ 12 / unit → Outcome v (Code c)
+  sent : negative v ≡ false → magnitude v ≤ 5 * half → share v2_5 v ≤ unit → (c : ℕ) → c ≡ share v2_5 v * 2 ^ 12 / unit → Outcome v (Some c)
   -- -0.0
-  nothing : negative v ≡ true → magnitude v ≡ 0 → Outcome v (Code 0)
+  nothing : negative v ≡ true → magnitude v ≡ 0 → Outcome v (Some 0)
   -- below zero
-  below : negative v ≡ true → 0 < magnitude v → Outcome v Range
+  below : negative v ≡ true → 0 < magnitude v → Outcome v None
   -- above 2.5
-  above : negative v ≡ false → 5 * half < magnitude v → Outcome v Range
+  above : negative v ≡ false → 5 * half < magnitude v → Outcome v None
   -- 2.5 itself, or what rounds there: the code would be 4096
-  whole : negative v ≡ false → unit ≤ share v2_5 v → Outcome v Range
+  whole : negative v ≡ false → unit ≤ share v2_5 v → Outcome v None
 
 -- ---- up to 2.5 the share is at most one
 
@@ -137,11 +136,11 @@ outcome v n = go (negative v) refl
     go true e = negative_number v n e (eq-zero-or-pos (magnitude v))
     go false e = not_negative v n e (dec_le (magnitude v) (magnitude v2_5))
 
-pub infinite : (s : Bool) → ad5627_code (inf s) ≡ Range
+pub infinite : (s : Bool) → ad5627_code (inf s) ≡ None
 unfolding le of_bits
 infinite true = refl
 infinite false = refl
 
-pub not_a_number : ad5627_code nan ≡ Range
+pub not_a_number : ad5627_code nan ≡ None
 unfolding le of_bits
 not_a_number = refl

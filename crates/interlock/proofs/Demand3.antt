@@ -1,5 +1,6 @@
 -- Demand 3 holds of the code that is sent for a level (`demand_3`): for both signs of the slope, for subnormal numbers, for zeros of either sign, and where the quotient overflows or vanishes.
 -- Assumes nothing.
+use Rattle.std.specs.Prelude.{Option}
 use mathlib.Core.Path.{◌≡◌, refl, sym, ap, ◌∙◌, subst}
 use mathlib.Core.Logic.{inl, inr}
 use Prim.Native.Nat.{ℕ, suc, ◌+◌, ◌-◌, ◌*◌, ◌/◌, ◌^◌, ◌≤◌, ◌<◌}
@@ -18,7 +19,6 @@ use Rattle.steps.proofs.Signed.{sum_size, negated, scaled, le_pos, lt_pos, lt_si
 use Rattle.steps.proofs.Operations.{rounded, plain, apart_sign, apart_is}
 use Rattle.linear_transformation.specs.declared.LinearTransformation.{LinearTransformation}
 use Rattle.linear_transformation.specs.Line.{invert_of}
-use Rattle.conversions.specs.declared.Conversion.{Conversion}
 use Rattle.conversions.specs.Codes.{ad5627_code}
 use Rattle.interlock.specs.Level.{level_code}
 use Rattle.interlock.specs.Demand3.{Given, turned, num, Close, OutOfRange, Answers, Demand3}
@@ -105,7 +105,7 @@ module _ (l : LinearTransformation) (t : Float) (g : Given l t) where
   }
 
   module _ (r : Float) (is_sign : negative r ≡ sign l t) (is_size : magnitude r ≡ volts l t) where
-    answers : {a : Conversion} → Outcome r a → Answers l t a
+    answers : {a : Option ℕ} → Outcome r a → Answers l t a
     answers (sent e h q c is) =
         let p = part (shares l t) c (rw (share_is l t r is_size) at is) in
         let within = rw (share_is l t r is_size) at q in

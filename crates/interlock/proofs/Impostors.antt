@@ -1,5 +1,6 @@
 -- Two impostors that demand 3 rules out: a conversion that refuses every level falls to the refusal half (`refuses_all`), and one that always sends the same code, whichever it is, falls to the accepted half (`sends_one`).
 -- The inputs are those of the bench sheet: slope 20, offset -10; threshold 15, whose count is 2048, and threshold -10, whose count is 0. Assumes nothing.
+use Rattle.std.specs.Prelude.{Some, None}
 use Prim.Native.Nat.{ℕ, zero, suc, ◌*◌, ◌≤◌, ◌<◌}
 use native.Mathlib.Nat.{suc-mul}
 use native.Mathlib.Omega.{arith}
@@ -10,7 +11,6 @@ use lib.Ieee.{Float, binary32, round, neg, fits}
 use Rattle.steps.specs.Steps.{unit, magnitude, negative}
 use Rattle.linear_transformation.specs.declared.LinearTransformation.{LinearTransformation}
 use Rattle.linear_transformation.specs.Line.{line}
-use Rattle.conversions.specs.declared.Conversion.TheVariants.{Code, Range}
 use Rattle.interlock.specs.Demand3.{Given, Close, OutOfRange, Demand3}
 
 abbrev number : ℕ → Float
@@ -27,7 +27,7 @@ given_10 : Given l (neg (number 10))
 unfolding round neg fits magnitude
 given_10 = record { threshold_finite = (tt, tt); offset_finite = (tt, tt); slope_finite = (tt, tt); slope_not_zero = lit< tt; threshold_size = lit≤ tt; offset_size = lit≤ tt }
 
-pub refuses_all : Demand3 (λ l t. Range) → ⊥
+pub refuses_all : Demand3 (λ l t. None) → ⊥
 refuses_all d = go (d l (number 15) given_15)
   where
     go : OutOfRange l (number 15) → ⊥
@@ -38,7 +38,7 @@ tiny : (n d : ℕ) → 0 < d → 1024 * (suc n * d) ≤ d → ⊥
 tiny n d p h = let e = suc-mul n d in omega arith
 
 -- at a count of 0 the code is 0, and at a count of 2048 it is not
-pub sends_one : (c : ℕ) → Demand3 (λ l t. Code c) → ⊥
+pub sends_one : (c : ℕ) → Demand3 (λ l t. Some c) → ⊥
 sends_one c d = go c (d l (neg (number 10)) given_10) (d l (number 15) given_15)
   where
     go : (c : ℕ) → Close l (neg (number 10)) c → Close l (number 15) c → ⊥

@@ -1,4 +1,5 @@
 -- A higher level never gets a lower code under a positive slope (`rising`), and never a higher one under a negative slope (`falling`), where both are accepted. For every f32: nothing else is asked of the four. Assumes nothing.
+use Rattle.std.specs.Prelude.{Option, Some}
 use mathlib.Core.Path.{◌≡◌, refl, sym, ap, ◌∙◌, subst}
 use mathlib.Core.Logic.{◌⊎◌, inl, inr}
 use Prim.Native.Nat.{ℕ, zero, suc, ◌+◌, ◌-◌, ◌*◌, ◌/◌, ◌^◌, ◌≤◌, ◌<◌, zero-le}
@@ -17,8 +18,6 @@ use Rattle.steps.proofs.Compare.{steps_of_le, both_negative, across_zero, some_s
 use Rattle.steps.proofs.Operations.{rounded, plain, difference, apart_sign, apart_size}
 use Rattle.linear_transformation.specs.declared.LinearTransformation.{LinearTransformation}
 use Rattle.linear_transformation.specs.Line.{invert_of}
-use Rattle.conversions.specs.declared.Conversion.{Conversion}
-use Rattle.conversions.specs.declared.Conversion.TheVariants.{Code}
 use Rattle.conversions.specs.Constants.{v2_5}
 use Rattle.conversions.specs.Constants as K
 use Rattle.conversions.specs.Codes.{ad5627_code}
@@ -142,7 +141,7 @@ divided (fin s m e) (fin t zero d) g f = absurd (go (eqb m 0) f)
 divided (fin s m e) (fin t (suc n) d) g f = (tt, inl (tt, some_steps t (suc n) d (zero-lt-suc n) g))
 
 -- only a finite number of volts is accepted
-accepted_finite : (v : Float) (c : ℕ) → ad5627_code v ≡ Code c → T (finite v)
+accepted_finite : (v : Float) (c : ℕ) → ad5627_code v ≡ Some c → T (finite v)
 accepted_finite nan c e = absurd (let z : ◌≡◌ {A = ℕ} 0 1 = cc (not_a_number, e) in omega arith)
 accepted_finite (inf s) c e = absurd (let z : ◌≡◌ {A = ℕ} 0 1 = cc (infinite s, e) in omega arith)
 accepted_finite (fin s m d) c e = tt
@@ -164,14 +163,14 @@ code_zero s S = rw (grid_zero unit (pow_pos 149), grid_zero s S, grid_zero (5 * 
 no_share : (v : Float) → magnitude v ≡ 0 → share v2_5 v ≡ 0
 no_share v z = rw (z, full) (grid_zero (5 * half) (lit< tt))
 
-no_code : (v : Float) (c : ℕ) {a : Conversion} → Outcome v a → a ≡ Code c → magnitude v ≡ 0 → c ≡ 0
+no_code : (v : Float) (c : ℕ) {a : Option ℕ} → Outcome v a → a ≡ Some c → magnitude v ≡ 0 → c ≡ 0
 no_code v c (sent e h q b is) a z = (let i : b ≡ c = cc in sym i ∙ is ∙ rw (no_share v z))
 no_code v c (A.nothing e h) a z = (let i : 0 ≡ c = cc in sym i)
 no_code v c (below e h) a z = absurd (let i : ◌≡◌ {A = ℕ} 0 1 = cc in omega arith)
 no_code v c (above e h) a z = absurd (let i : ◌≡◌ {A = ℕ} 0 1 = cc in omega arith)
 no_code v c (whole e h) a z = absurd (let i : ◌≡◌ {A = ℕ} 0 1 = cc in omega arith)
 
-module _ (l : LinearTransformation) (t : Float) (c : ℕ) (fits_t : T (fits binary32 t)) (fits_o : T (fits binary32 l.offset)) (fits_s : T (fits binary32 l.slope)) (e : level_code l t ≡ Code c) where
+module _ (l : LinearTransformation) (t : Float) (c : ℕ) (fits_t : T (fits binary32 t)) (fits_o : T (fits binary32 l.offset)) (fits_s : T (fits binary32 l.slope)) (e : level_code l t ≡ Some c) where
   finite_volts : T (finite (invert_of l t))
   finite_volts = accepted_finite (invert_of l t) c e
 
@@ -190,7 +189,7 @@ module _ (l : LinearTransformation) (t : Float) (c : ℕ) (fits_t : T (fits bina
       read way under volts_under r is_sign is_size (outcome r number) (ap ad5627_code (sym (volts_are l t way)) ∙ e)
     where
       read : Finite l t → rounded_apart l t < overflow binary32 → volts l t < overflow binary32 → (r : Float) → negative r ≡ sign l t → magnitude r ≡ volts l t
-          → {a : Conversion} → Outcome r a → a ≡ Code c → Found l t c
+          → {a : Option ℕ} → Outcome r a → a ≡ Some c → Found l t c
       read way u v r is_sign is_size (sent n h q b is) a =
           let i : b ≡ c = cc in
           counted way (sym is_sign ∙ n) (record { difference = u; quotient = v; share = lt_of_le_of_lt (rw (share_is l t r is_size) at q) (lit< tt) }) (sym i ∙ rw (share_is l t r is_size) at is)

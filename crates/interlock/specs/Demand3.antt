@@ -1,9 +1,7 @@
 -- Demand 3, in whole numbers. T, O and S are the threshold, the offset and the slope in steps of 2 ^ -149. The count 4096 x (T - O) / (2.5 x S) is the fraction 8192 x (T - O) / (5 x S). Definitions only.
-use Rattle.std.specs.Prelude.{ℕ, ◌+◌, ◌*◌, ◌^◌, ◌≤◌, ◌<◌, Bool, true, false, ◌⊎◌, ℤ, pos, neg_ℤ, ◌+ℤ◌, ◌-ℤ◌, ◌*ℤ◌, ◌≤ℤ◌, ◌<ℤ◌, Float}
+use Rattle.std.specs.Prelude.{ℕ, ◌+◌, ◌*◌, ◌^◌, ◌≤◌, ◌<◌, Bool, true, false, ◌⊎◌, ℤ, pos, neg_ℤ, ◌+ℤ◌, ◌-ℤ◌, ◌*ℤ◌, ◌≤ℤ◌, ◌<ℤ◌, Float, Option, Some, None}
 use Rattle.steps.specs.Steps.{unit, magnitude, negative, steps, IsNumber}
 use Rattle.linear_transformation.specs.declared.LinearTransformation.{LinearTransformation}
-use Rattle.conversions.specs.declared.Conversion.{Conversion}
-use Rattle.conversions.specs.declared.Conversion.TheVariants.{Code, Range}
 
 -- what demand 3 takes for given: finite numbers, a slope other than zero, and a threshold and an offset of at most 2 ^ 126 in size
 pub record Given (l : LinearTransformation) (threshold : Float) : Type 0 where
@@ -37,14 +35,14 @@ pub record Close (l : LinearTransformation) (threshold : Float) (code : ℕ) : T
 abbrev pub OutOfRange : LinearTransformation → Float → Type 0
 OutOfRange l threshold = (num l threshold <ℤ pos 0) ⊎ (pos (4194303 * den l) <ℤ (pos 1024 *ℤ num l threshold))
 
-abbrev pub Answers : LinearTransformation → Float → Conversion → Type 0
-Answers l threshold (Code code) = Close l threshold code
-Answers l threshold Range = OutOfRange l threshold
+abbrev pub Answers : LinearTransformation → Float → Option ℕ → Type 0
+Answers l threshold (Some code) = Close l threshold code
+Answers l threshold None = OutOfRange l threshold
 
 -- ---- demand 3, of one answer, and of a conversion
 
-abbrev pub Right : LinearTransformation → Float → Conversion → Type 0
+abbrev pub Right : LinearTransformation → Float → Option ℕ → Type 0
 Right l threshold answer = Given l threshold → Answers l threshold answer
 
-abbrev pub Demand3 : (LinearTransformation → Float → Conversion) → Type 0
+abbrev pub Demand3 : (LinearTransformation → Float → Option ℕ) → Type 0
 Demand3 convert = (l : LinearTransformation) (threshold : Float) → Right l threshold (convert l threshold)

@@ -6,12 +6,11 @@ ghost use Rattle.std.specs.Prelude.{◌≡◌};
 ghost use Rattle.interlock.specs.Level.{level_code};
 ghost use Rattle.interlock.specs.Demand3.{Right};
 
-use conversions::Conversion;
 use linear_transformation::LinearTransformation;
 
 // The first promise fixes the answer. The second is demand 3: how far the code may lie from the exact
 // count, and when a level may be refused.
-pub fn level_code(transform: LinearTransformation, threshold: f32) -> Conversion
+pub fn level_code(transform: LinearTransformation, threshold: f32) -> Option<u16>
     ensures exact { result ≡ level_code transform threshold }
     ensures close { Right transform threshold result }
 {

@@ -2,55 +2,54 @@
 // the bench sheet: 20 dBm a volt, -10 dBm at 0 V. Before that, the bench sheet's volts.
 #![tactic(auto)]
 
-use conversions::Conversion;
+use conversions::{ad5627_code, dac7571_code};
 use linear_transformation::LinearTransformation;
 
 // The number of the standard output.
 const STDOUT: i32 = 1;
 
+fn text(s: &[u8]) {
+    io::write_all(STDOUT, s);
+}
+
 // The end of a line: the code, or that there is none.
-fn print_answer(answer: Conversion) {
-    let Conversion::Code(code) = answer else {
-        io::write_all(STDOUT, b",refused\n");
-        return;
-    };
-    io::write_all(STDOUT, b",");
-    io::print_decimal(STDOUT, code as u64);
-    io::write_all(STDOUT, b"\n");
+fn print_answer(answer: Option<u16>) {
+    match answer {
+        Some(code) => {
+            text(b",");
+            io::print_decimal(STDOUT, u64::from(code));
+            text(b"\n");
+        }
+        None => text(b",refused\n"),
+    }
 }
 
-// One level: k dBm above -12.
-fn print_level(transform: LinearTransformation, k: u16) {
-    if k < 12 {
-        io::write_all(STDOUT, b"-");
-        io::print_decimal(STDOUT, (12 - k) as u64);
-    } else {
-        io::print_decimal(STDOUT, (k - 12) as u64);
+// One level, in dBm.
+fn print_level(transform: LinearTransformation, level: i16) {
+    if level < 0 {
+        text(b"-");
     }
-    let threshold = k as f32 - 12.0;
-    print_answer(interlock::level_code(transform, threshold));
+    io::print_decimal(STDOUT, u64::from(level.unsigned_abs()));
+    print_answer(interlock::level_code(transform, f32::from(level)));
 }
 
-fn print_levels(transform: LinearTransformation) {
-    for k in 0..55 {
-        print_level(transform, k);
-    }
+// One of the bench sheet's volts.
+fn print_volts(name: &[u8], answer: Option<u16>) {
+    text(name);
+    print_answer(answer);
 }
 
 fn main() {
-    let nan = 0.0 / 0.0;
-    io::write_all(STDOUT, b"bench,code\nad5627 1.25");
-    print_answer(conversions::ad5627_code(1.25));
-    io::write_all(STDOUT, b"ad5627 2.5");
-    print_answer(conversions::ad5627_code(2.5));
-    io::write_all(STDOUT, b"ad5627 NaN");
-    print_answer(conversions::ad5627_code(nan));
-    io::write_all(STDOUT, b"dac7571 3.2");
-    print_answer(conversions::dac7571_code(3.2));
-    io::write_all(STDOUT, b"dac7571 3.3");
-    print_answer(conversions::dac7571_code(3.3));
-    io::write_all(STDOUT, b"dac7571 NaN");
-    print_answer(conversions::dac7571_code(nan));
-    io::write_all(STDOUT, b"dBm,code\n");
-    print_levels(LinearTransformation::new(20.0, -10.0));
+    text(b"bench,code\n");
+    print_volts(b"ad5627 1.25", ad5627_code(1.25));
+    print_volts(b"ad5627 2.5", ad5627_code(2.5));
+    print_volts(b"ad5627 NaN", ad5627_code(f32::NAN));
+    print_volts(b"dac7571 3.2", dac7571_code(3.2));
+    print_volts(b"dac7571 3.3", dac7571_code(3.3));
+    print_volts(b"dac7571 NaN", dac7571_code(f32::NAN));
+    text(b"dBm,code\n");
+    let transform = LinearTransformation::new(20.0, -10.0);
+    for level in -12..=42 {
+        print_level(transform, level);
+    }
 }

@@ -1,35 +1,31 @@
 -- What is held is never more than the buffer has, and where a line ends. Assumes nothing.
-use Prim.Native.Nat.{ℕ, zero, suc, ◌+◌, ◌-◌, ◌≤◌, ◌<◌, min}
-use native.Mathlib.Numerals.{add-one}
-use native.Mathlib.Omega.{arith}
-use native.Mathlib.Nat.{zero-min, suc-min-suc}
-use mathlib.Core.Path.{◌≡◌, refl, sym, ap, ◌∙◌}
-use mathlib.Core.Bool.{Bool, true, false}
-use mathlib.Core.List.{List, [], ◌∷◌, ◌++◌, append-nil}
-use lib.Dec.{leb}
-use lib.ListN.{length, take, drop, get_or, set, length-set, length-append, drop_of_length-le}
-use lib.Seq.{take-nil, take_all, take-append-le, take-suc-set, append_snoc, length-take-le, drop-cons}
-use borrow.Author.Tests.{eq-eqb, ne_eqb, leb-true, leb-false}
-use Rattle.line_hold.specs.Hold.{room, carriage_return, last_of, end_of, held_after, kept_in, held_past, kept_part, Parts}
+use Rattle.std.proofs.Common.{◌≡◌, ℕ, suc, ◌+◌, ◌-◌, ◌≤◌, ◌<◌, Bool, true, false, List, [], ◌∷◌, ◌++◌, Bor, Option, None, Some, eqb, leb, length, take, drop, get_or, set, refl, sym, ap, ◌∙◌, add-one, arith, append-nil, length-set, take_all, take-suc-set, length-take-le, drop-cons, drop_of_length-le}
+use Rattle.std.proofs.Math.Bool.{and-true}
+use Rattle.std.proofs.Math.Seq.{take-length, append_snoc}
+use Rattle.std.proofs.lemmas.List.{take-append-le}
+use Rattle.std.specs.Option.{MatchOption, unwrap_or}
+use Rattle.std.specs.Cmp.Lexicographic.{pointwise}
+use borrow.Author.Tests.{leb-true, leb-false}
+use Rattle.line_hold.specs.Hold.{room, carriage_return, last_of, end_of, without_cr, held_after, kept_in, held_past, kept_part, Parts}
 
-pub take_min : (n : ℕ) (l : List ℕ) → take (min n (length l)) l ≡ take n l
-take_min zero l = rw zero-min refl
-take_min (suc n) [] = take-nil (min (suc n) 0) ∙ sym (take-nil (suc n))
-take_min (suc n) (b ∷ l) = rw suc-min-suc (ap (b ∷◌) (take_min n l))
+-- ---- a line's end
 
--- an empty line has no CR at its end
-pub ends_empty : (l : List ℕ) → length l ≡ 0 → length l ≡ end_of l
-unfolding end_of
-ends_empty [] e = refl
-ends_empty (b ∷ l) e = absurd (omega (arith, e))
+last_alone : (l : List ℕ) (k : ℕ) → length l ≡ k + 1 → drop k l ≡ get_or l k 0 ∷ []
+last_alone l k e = rw (drop-cons l k 0 (omega (arith, e)), drop_of_length-le l {i = suc k} (omega (arith, e)))
 
-pub ends_cr : (l : List ℕ) → last_of l ≡ carriage_return → length l - 1 ≡ end_of l
-unfolding end_of
-ends_cr l e = rw (eq-eqb (last_of l) carriage_return e)
+-- the last byte is a CR or not
+ends_cr : (l : List ℕ) → pointwise eqb (drop (length l - 1) l) (carriage_return ∷ []) ≡ eqb (last_of l) carriage_return
+ends_cr [] = refl
+ends_cr (b ∷ l) =
+    ap (λ (t : List ℕ). pointwise eqb t (carriage_return ∷ [])) (last_alone (b ∷ l) (length (b ∷ l) - 1) (omega arith))
+    ∙ and-true (eqb (last_of (b ∷ l)) carriage_return)
 
-pub ends_plain : (l : List ℕ) → (last_of l ≡ carriage_return → ⊥) → length l ≡ end_of l
-unfolding end_of
-ends_plain l e = rw (ne_eqb (last_of l) carriage_return e)
+pub without_suffix : (s : Bor (List ℕ)) (o : Option (Bor (List ℕ)))
+    → MatchOption o (pointwise eqb (drop (length s.now - 1) s.now) (carriage_return ∷ []) ≡ false) (λ x. (pointwise eqb (drop (length s.now - 1) s.now) (carriage_return ∷ []) ≡ true) × (x.now ≡ take (length s.now - 1) s.now) × (length x.now + 1 ≡ length s.now))
+    → (unwrap_or o s).now ≡ without_cr s.now
+unfolding end_of without_cr
+without_suffix s None h = rw (sym (ends_cr s.now) ∙ h) (sym (take-length s.now))
+without_suffix s (Some x) h = rw (sym (ends_cr s.now) ∙ h.0) h.1
 
 -- ---- a part of a line: what is left of it, kept behind what is held, gives the same as the whole did
 

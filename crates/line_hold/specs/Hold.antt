@@ -1,5 +1,5 @@
 -- The bytes of a line that is being read: the first 514 are held in a buffer. Definitions only.
-use Rattle.std.specs.Prelude.{ℕ, ◌+◌, ◌-◌, ◌≤◌, min, ◌≡◌, cond, List, [], ◌∷◌, ◌++◌, eqb, leb, length, take, get_or, set}
+use Rattle.std.specs.Prelude.{ℕ, ◌+◌, ◌-◌, min, ◌≡◌, cond, List, [], ◌∷◌, ◌++◌, eqb, leb, length, take, get_or, set}
 
 abbrev pub room : ℕ
 room = 514

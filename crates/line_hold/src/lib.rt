@@ -2,14 +2,15 @@
 // has at most 512 bytes: one byte more is for the CR before its end, and one to see that it is too long.
 #![tactic(auto)]
 
-ghost use Rattle.std.specs.Prelude.{◌≡◌, ◌≤◌, min, length, take};
-ghost use Rattle.line_hold.specs.Hold.{held_after, kept_in, held_past, kept_part, end_of, without_cr};
+ghost use Rattle.std.specs.Prelude.{◌≡◌, length, take};
+ghost use Rattle.line_hold.specs.Hold.{held_after, kept_in, held_past, kept_part, without_cr};
 
-const CR: u8 = 13;
+const CR: u8 = b'\r';
 
 const ROOM: usize = 514;
 
-// Keeps one byte more, if there is room for it, and answers how many are held.
+// Keeps one byte more, if there is room for it, and answers how many are held. The buffer and what is held of it are
+// two arguments, since what is said of a reading names each.
 pub fn keep(hold: &mut [u8], held: usize, b: u8) -> usize
     requires { length hold.old ≡ 514 }
     ensures { (result ≡ held_after held) × (hold.new ≡ kept_in hold.old held b) }
@@ -27,11 +28,8 @@ pub fn keep_part(hold: &mut [u8; 514], held: usize, part: &[u8]) -> usize
     ensures { (result ≡ held_past held part.now) × (hold.new ≡ kept_part hold.old held part.now) }
 {
     let mut held = held;
-    let mut i = 0;
-    while i < part.len() {
-        let b = part[i];
-        i += 1;
-        held = keep(hold, held, b);
+    for b in part {
+        held = keep(hold, held, *b);
     }
     held
 }
@@ -40,34 +38,12 @@ pub fn keep_part(hold: &mut [u8; 514], held: usize, part: &[u8]) -> usize
 pub fn front(s: &[u8], n: usize) -> &[u8]
     ensures { result.now ≡ take n s.now }
 {
-    let end = least(n, s.len());
-    &s[..end]
-}
-
-fn least(a: usize, b: usize) -> usize
-    ensures { (result ≡ min a b) × (result ≤ b) }
-{
-    if a < b { a } else { b }
-}
-
-// Where the line ends, if a CR at its end is not of it.
-fn end_of(s: &[u8]) -> usize
-    ensures { (result ≡ end_of s.now) × (result ≤ length s.now) }
-{
-    let n = s.len();
-    if n == 0 {
-        return n;
-    }
-    if s[n - 1] == CR {
-        return n - 1;
-    }
-    n
+    &s[..n.min(s.len())]
 }
 
 // The line without the CR that belongs to its line end.
 pub fn without_cr(s: &[u8]) -> &[u8]
     ensures { result.now ≡ without_cr s.now }
 {
-    let end = end_of(s);
-    &s[..end]
+    s.strip_suffix(&[CR]).unwrap_or(s)
 }

@@ -5,7 +5,7 @@
 ghost use Rattle.std.specs.Prelude.{◌≡◌};
 ghost use Rattle.linear_transformation.specs.Line.{line, map_of, invert_of};
 
-#[derive(Clone, Copy)]
+#[derive(Clone, Copy, PartialEq)]
 pub struct LinearTransformation {
     pub slope: f32,
     pub offset: f32,

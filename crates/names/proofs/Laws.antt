@@ -1,36 +1,32 @@
--- Laws of two texts that are compared byte by byte. Assumes nothing.
-use mathlib.Core.Path.{◌≡◌, refl}
-use mathlib.Core.Bool.{Bool, true, false, ◌&&◌}
-use mathlib.Core.List.{List, [], ◌∷◌}
-use Prim.Native.Nat.{ℕ, ◌+◌, ◌≤◌, ◌<◌}
-use native.Mathlib.Numerals.{add-one}
-use native.Mathlib.Omega.{arith}
-use lib.Dec.{eqb}
-use lib.ListN.{length, drop, get_or, drop_of_length-le}
-use lib.Seq.{drop-cons}
-use borrow.Author.Tests.{ne_eqb, eq-eqb}
+-- What the comparison of two texts says. Assumes nothing.
+use Rattle.std.proofs.Common.{◌≡◌, refl, Bool, true, false, ◌&&◌, List, [], ◌∷◌, ℕ, eqb, length, ◌⊎◌, inl, inr}
+use Rattle.std.proofs.lemmas.Slice.Eq.{HasBytesAt, text_from_reads}
+use borrow.Author.Tests.{eqb-true, eq-eqb}
 use Rattle.names.specs.Names.{same}
 
-pub other_length : (a b : List ℕ) → (length a ≡ length b → ⊥) → same a b ≡ false
+same_true : (l p : List ℕ) → same l p ≡ true → l ≡ p
 unfolding same
-other_length [] [] n = absurd (n refl)
-other_length [] (y ∷ ys) n = refl
-other_length (x ∷ xs) [] n = refl
-other_length (x ∷ xs) (y ∷ ys) n = rw (other_length xs ys (λ e. n (omega (arith, e)))) (go (eqb x y))
+same_true [] [] h = refl
+same_true [] (y ∷ ys) h = cc
+same_true (x ∷ xs) [] h = cc
+same_true (x ∷ xs) (y ∷ ys) h = go (eqb x y) (same xs ys) (eqb-true x y) (same_true xs ys) h
   where
-    go : (t : Bool) → t && false ≡ false
-    go true = refl
-    go false = refl
+    go : (a b : Bool) → (a ≡ true → x ≡ y) → (b ≡ true → xs ≡ ys) → a && b ≡ true → x ∷ xs ≡ y ∷ ys
+    go true true f g e = let p : x ≡ y = f refl in let q : xs ≡ ys = g refl in cc
+    go true false f g e = cc
+    go false b f g e = cc
 
-module _ (a b : List ℕ) (i : ℕ) (l : i < length a) (k : i < length b) where
-  pub differ : (get_or a i 0 ≡ get_or b i 0 → ⊥) → same (drop i a) (drop i b) ≡ false
-  unfolding same
-  differ n = rw (drop-cons a i 0, drop-cons b i 0, ne_eqb (get_or a i 0) (get_or b i 0) n)
+pub same_cases : (l p : List ℕ) → ((same l p ≡ true) × (l ≡ p)) ⊎ (same l p ≡ false)
+same_cases l p = go (same l p) (same_true l p)
+  where
+    go : (t : Bool) → (t ≡ true → l ≡ p) → ((t ≡ true) × (l ≡ p)) ⊎ (t ≡ false)
+    go true f = inl (refl, f refl)
+    go false f = inr refl
 
-  pub agree : get_or a i 0 ≡ get_or b i 0 → same (drop (i + 1) a) (drop (i + 1) b) ≡ same (drop i a) (drop i b)
-  unfolding same
-  agree e = rw (add-one, drop-cons a i 0, drop-cons b i 0, eq-eqb (get_or a i 0) (get_or b i 0) e)
-
-pub both_end : (a b : List ℕ) (i : ℕ) → length a ≤ i → length b ≤ i → same (drop i a) (drop i b) ≡ true
+same_self : (l : List ℕ) → same l l ≡ true
 unfolding same
-both_end a b i l k = rw (drop_of_length-le a l, drop_of_length-le b k)
+same_self [] = refl
+same_self (x ∷ xs) = rw (eq-eqb x x refl, same_self xs)
+
+pub same_bytes : (l p : List ℕ) → length l ≡ length p → HasBytesAt l 0 p → same l p ≡ true
+same_bytes l p n h = rw (text_from_reads l p n h) (same_self p)

@@ -1,7 +1,5 @@
 -- What the bytes of a field of a trace's line mean, as one of a few texts: a flag, a call's name. Definitions only.
-use Rattle.std.specs.Prelude.{ℕ, Bool, true, false, ◌&&◌, cond, List, [], ◌∷◌, eqb}
-use Rattle.names.specs.declared.Flag.{Flag}
-use Rattle.names.specs.declared.Flag.TheVariants as F
+use Rattle.std.specs.Prelude.{ℕ, Bool, true, false, ◌&&◌, cond, List, [], ◌∷◌, eqb, Option, Some, None}
 use Rattle.names.specs.declared.Name.{Name}
 use Rattle.names.specs.declared.Name.TheVariants as N
 
@@ -15,8 +13,8 @@ same (x ∷ xs) (y ∷ ys) = eqb x y && same xs ys
 -- ---- a flag: 0 or 1
 
 -- the flag: the byte 48 alone is false, 49 alone is true
-abbrev pub flag_of : List ℕ → Flag
-flag_of l = cond (same l (48 ∷ [])) (F.Is false) (cond (same l (49 ∷ [])) (F.Is true) F.Not)
+abbrev pub flag_of : List ℕ → Option Bool
+flag_of l = cond (same l (48 ∷ [])) (Some false) (cond (same l (49 ∷ [])) (Some true) None)
 
 -- ---- a call's name
 
@@ -42,10 +40,10 @@ calls =
     []
 
 -- the first of them that has these bytes
-abbrev pub among : List Named → List ℕ → Name
-among [] l = N.Not
-among (c ∷ cs) l = cond (same l c.bytes) c.name (among cs l)
+abbrev pub among : List Named → List ℕ → Option Name
+among [] l = None
+among (c ∷ cs) l = cond (same l c.bytes) (Some c.name) (among cs l)
 
 -- the name
-abbrev pub name_of : List ℕ → Name
+abbrev pub name_of : List ℕ → Option Name
 name_of l = among calls l

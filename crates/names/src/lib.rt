@@ -1,18 +1,11 @@
 // The fields of one line of a replay trace that are one of a few texts, flags and the names of calls.
-// Any other text answers `Not`.
+// Any other text is `None`.
 #![tactic(auto)]
 
-ghost use Rattle.std.specs.Prelude.{◌≡◌, cond};
-ghost use Rattle.names.specs.Names.{same, flag_of, name_of};
+ghost use Rattle.std.specs.Prelude.{◌≡◌};
+ghost use Rattle.names.specs.Names.{flag_of, name_of};
 
-// A flag, or none.
-#[derive(Clone, Copy)]
-pub enum Flag {
-    Is(bool),
-    Not,
-}
-
-// The name of a call, or no such name.
+// The name of a call.
 #[derive(Clone, Copy)]
 pub enum Name {
     Start,
@@ -22,55 +15,32 @@ pub enum Name {
     Standby,
     Settings,
     Status,
-    Not,
-}
-
-// Whether the two hold the same bytes.
-fn are_same(a: &[u8], b: &[u8]) -> bool
-    ensures { result ≡ same a.now b.now }
-{
-    if a.len() != b.len() {
-        return false;
-    }
-    let mut i = 0;
-    while i < a.len() {
-        if a[i] != b[i] {
-            return false;
-        }
-        i += 1;
-    }
-    true
 }
 
 // A flag is a single byte, 0 or 1.
-pub fn flag_of(s: &[u8]) -> Flag
+#[tactic(auto, using(crate::proofs::Laws::same_cases, crate::proofs::Laws::same_bytes))]
+pub fn flag_of(s: &[u8]) -> Option<bool>
     ensures { result ≡ flag_of s.now }
 {
-    if are_same(s, b"0") {
-        return Flag::Is(false);
+    match s {
+        b"0" => Some(false),
+        b"1" => Some(true),
+        _ => None,
     }
-    if are_same(s, b"1") {
-        return Flag::Is(true);
-    }
-    Flag::Not
 }
 
-// The name where the bytes are its own, and `rest` where they are not.
-fn or_rest(s: &[u8], bytes: &[u8], name: Name, rest: Name) -> Name
-    ensures { result ≡ cond (same s.now bytes.now) name rest }
-{
-    if are_same(s, bytes) { name } else { rest }
-}
-
-// The names from the last to the first, so that each has those after it as the rest.
-pub fn name_of(s: &[u8]) -> Name
+#[tactic(auto, using(crate::proofs::Laws::same_cases, crate::proofs::Laws::same_bytes))]
+pub fn name_of(s: &[u8]) -> Option<Name>
     ensures { result ≡ name_of s.now }
 {
-    let rest = or_rest(s, b"status", Name::Status, Name::Not);
-    let rest = or_rest(s, b"settings", Name::Settings, rest);
-    let rest = or_rest(s, b"standby", Name::Standby, rest);
-    let rest = or_rest(s, b"reset", Name::Reset, rest);
-    let rest = or_rest(s, b"update", Name::Update, rest);
-    let rest = or_rest(s, b"startup", Name::Startup, rest);
-    or_rest(s, b"start", Name::Start, rest)
+    match s {
+        b"start" => Some(Name::Start),
+        b"startup" => Some(Name::Startup),
+        b"update" => Some(Name::Update),
+        b"reset" => Some(Name::Reset),
+        b"standby" => Some(Name::Standby),
+        b"settings" => Some(Name::Settings),
+        b"status" => Some(Name::Status),
+        _ => None,
+    }
 }

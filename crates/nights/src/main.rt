@@ -1,25 +1,18 @@
 // Replays the traces that its words name, one after the other, each under its name.
 #![tactic(auto)]
 
-mod turns;
-
-use std::env;
 use std::fs::File;
-use std::io::Result;
 use std::rt::Files;
-
-// The number of the standard output.
-const STDOUT: i32 = 1;
+use std::{env, io};
 
 // A trace that cannot be opened is told of by its name.
-fn replay<R: Files<File = File> + Eprint>(rt: &R, path: &str) {
-    let name = path.as_bytes();
-    io::write_all(STDOUT, name);
-    io::write_all(STDOUT, b"\r\n");
+fn replay<R: Files<File = File> + Print + Eprint>(rt: &R, path: &str) {
+    let _named = print!(rt; "{path}\r\n");
     match File::open(rt, path) {
-        Ok(trace) => {
-            let mut trace = trace;
-            turns::run(&mut trace);
+        Ok(mut trace) => {
+            if let Err(broken) = replay_run::run(&mut trace, &mut io::writer(rt)) {
+                let _told = eprintln!(rt; "{broken}");
+            }
         }
         Err(error) => {
             let _told = eprintln!(rt; "{path}: {error}");
@@ -27,7 +20,7 @@ fn replay<R: Files<File = File> + Eprint>(rt: &R, path: &str) {
     }
 }
 
-fn main(rt: HostRuntime) -> Result<()> {
+fn main(rt: HostRuntime) -> io::Result<()> {
     for path in env::args(&rt)?.skip(1) {
         replay(&rt, path.as_str());
     }

@@ -1,18 +1,21 @@
--- Laws of inking: nothing (`inked_none`), a byte (`byte_in`, `byte_out`), one text behind another (`behind`), a text with and without room, and the texts spelt out.
+-- Laws of inking: nothing (`inked_none`), one text behind another (`behind`), what fits of a text (`front_inked`), a text with and without room, and the texts spelt out.
 -- Assumes nothing.
 use Prim.Native.Nat.{ℕ, suc, ◌+◌, ◌-◌, ◌≤◌, ◌<◌, min}
 use mathlib.Core.Bool.{Bool, true, false}
 use mathlib.Core.Path.{◌≡◌, refl, sym, ap, ◌∙◌}
 use mathlib.Core.List.{List, [], ◌∷◌, ◌++◌, append-nil, append_assoc}
-use native.Mathlib.Nat.{add-zero, add-suc, suc-add}
+use native.Mathlib.Nat.{add-zero}
 use native.Mathlib.Numerals.{add-one}
 use native.Mathlib.Omega.{arith}
 use lib.Dec.{leb}
-use lib.ListN.{length, take, drop, get_or, set, length-append}
-use lib.Seq.{sets, sets-eq, length-sets, set_out, take-suc, take_at, drop_at, length-take-le}
+use lib.ListN.{length, take, drop, get_or, set, length-append, length-take}
+use lib.Seq.{sets, sets-eq, length-sets, set_out, take-suc, take_all, take_at, drop_at, length-take-le}
+use Rattle.std.proofs.Common.{take-append-drop}
 use borrow.Author.Tests.{leb-true, leb-false}
+use Rattle.text.specs.declared.Writer.{Writer}
 use Rattle.text.specs.Texts.{Wrote}
-use Rattle.pen.specs.Ink.{Inked, each, pair_text, rows_text}
+use Rattle.pen.specs.Ink.{Inked, each, rows_text}
+use Rattle.pen.specs.Pens.{Inks}
 use Rattle.pen.specs.Marks.{Inking, Spelt}
 
 -- ---- stores
@@ -30,14 +33,13 @@ stores_then o n (x ∷ a) b =
 
 -- ---- a text
 
-pub inked_none : (o : List ℕ) (n : ℕ) → Inked o n o n []
-inked_none o n = record { stored = refl; past = omega arith }
+pub inked_none : (w : Writer) → Inks w w []
+inked_none w = record { stored = refl; past = omega arith }
 
-pub byte_in : (o : List ℕ) (n b : ℕ) → n < length o → Inked o n (set o n b) (n + 1) (b ∷ [])
-byte_in o n b h = record { stored = refl; past = omega arith }
-
-pub byte_out : (o : List ℕ) (n b : ℕ) → length o ≤ n → Inked o n o n (b ∷ [])
-byte_out o n b h = record { stored = sym (stores_out o n (b ∷ []) h); past = omega arith }
+-- either there is room for all of the text, or not
+by : (t : Bool) {G : Type 0} → (t ≡ true → G) → (t ≡ false → G) → G
+by true f g = f refl
+by false f g = g refl
 
 -- the second text begins where the first ends, or there is no room left for it
 begins : (o : List ℕ) (n r : ℕ) (a b : List ℕ) → r ≡ n + min (length a) (length o - n) → sets (sets o n a) r b ≡ sets o n (a ++ b)
@@ -45,10 +47,6 @@ begins o n r a b e = by (leb (length a) (length o - n))
     (λ h. rw (room (leb-true (length a) (length o - n) h)) (stores_then o n a b))
     (λ h. full (leb-false (length a) (length o - n) h))
   where
-    by : (t : Bool) {G : Type 0} → (t ≡ true → G) → (t ≡ false → G) → G
-    by true f g = f refl
-    by false f g = g refl
-
     room : length a ≤ length o - n → r ≡ n + length a
     room h = omega (arith, e)
 
@@ -64,10 +62,32 @@ behind {o} {o'} {o''} {n} {r} {s} {a} {b} v w = record {
   past = omega (arith, length-append a b, v.past, w.past, ap length v.stored ∙ length-sets o n a);
 }
 
--- the text's first i bytes are there, and the next follows
-pub one_more : {o o' o'' : List ℕ} {n r s : ℕ} (text : List ℕ) (i : ℕ) → i < length text
-    → Inked o n o' r (take i text) → Inked o' r o'' s (get_or text i 0 ∷ []) → Inked o n o'' s (take (i + 1) text)
-one_more text i h v w = rw (add-one, take-suc text i 0 h) (behind v w)
+pub nothing_inked : (w : Writer) (text : List ℕ) → length w.out.now ≤ w.at → Inks w w text
+nothing_inked w text h = record { stored = sym (stores_out w.out.now w.at text h); past = omega arith }
+
+-- what is left out had no room
+left_out : (o : List ℕ) (n k : ℕ) (text : List ℕ) → k ≡ min (length o - n) (length text) → sets o n (take k text) ≡ sets o n text
+left_out o n k text e = by (leb (length text) (length o - n))
+    (λ h. rw (take_all k text (omega (arith, e, leb-true (length text) (length o - n) h))) refl)
+    (λ h. full (leb-false (length text) (length o - n) h))
+  where
+    front : List ℕ
+    front = take k text
+
+    full : length o - n < length text → sets o n front ≡ sets o n text
+    full h =
+        sym (stores_out (sets o n front) (n + length front) (drop k text) (omega (arith, e, length-sets o n front, length-take k text)))
+        ∙ stores_then o n front (drop k text)
+        ∙ ap (sets o n) (take-append-drop k text)
+
+-- what fits of the text is written
+pub front_inked : {o o' : List ℕ} {n r : ℕ} (k : ℕ) (text : List ℕ) → n < length o → k ≡ min (length o - n) (length text) → Wrote o n o' r (take k text) → Inked o n o' r text
+front_inked {o} {o'} {n} {r} k text h e w =
+    let front : List ℕ = take k text in
+    let size : length front ≡ k = length-take-le k text (omega (arith, e)) in
+    let whole : o' ≡ (take n o ++ front) ++ drop r o = sym (take-append-drop r o') ∙ rw (w.front, w.rest) in
+    let stored : o' ≡ sets o n front = whole ∙ rw w.past (sym (sets-eq front o n (omega (arith, e, size)))) in
+    record { stored = stored ∙ left_out o n k text e; past = omega (arith, e, size, w.past) }
 
 -- ---- each of a list
 
@@ -80,9 +100,9 @@ each_one : {A : Type 0} (text : A → List ℕ) (a : A) → each text (a ∷ [])
 unfolding each
 each_one text a = append-nil (text a)
 
-pub each_none : {A : Type 0} (text : A → List ℕ) (o : List ℕ) (n : ℕ) → Inked o n o n (each text [])
+pub each_none : {A : Type 0} (text : A → List ℕ) (w : Writer) → Inks w w (each text [])
 unfolding each
-each_none text o n = inked_none o n
+each_none text w = inked_none w
 
 -- the first i are written, and the next follows
 pub each_more : {A : Type 0} (text : A → List ℕ) (d : A) {o o' o'' : List ℕ} {n r s : ℕ} (l : List A) (i : ℕ) → i < length l

@@ -1,126 +1,105 @@
 // Writing into a buffer that the caller lends, one text behind the other. What does not fit is left out, so that
 // nothing is asked of the caller: the buffers of the programs that compare have room enough.
+// These are functions, since only the crate `text` can give its writer methods.
 #![tactic(auto)]
 
 ghost use Rattle.std.specs.Prelude.{◌≡◌, [], ◌∷◌, ◌%◌};
 ghost use Rattle.text.specs.Texts.{decimal_text};
-ghost use Rattle.pen.specs.Ink.{Inked, each, flag_text, hex_digit, pair_text, hex_text, float_text, rows_text};
+ghost use Rattle.pen.specs.Ink.{each, flag_text, hex_digit, pair_text, hex_text, float_text, rows_text};
+ghost use Rattle.pen.specs.Pens.{Inks};
 
-// A byte, and the place past it.
-pub fn byte(out: &mut [u8], at: usize, b: u8) -> usize
-    ensures { Inked out.old at out.new result (b ∷ []) }
+use text::Writer;
+
+// A byte.
+pub fn byte(writer: &mut Writer, b: u8)
+    ensures lent { writer.new.out.ghost_name ≡ writer.old.out.ghost_name }
+    ensures text { Inks writer.old writer.new (b ∷ []) }
 {
-    if out.len() <= at {
-        return at;
-    }
-    out[at] = b;
-    at + 1
+    bytes(writer, &[b]);
 }
 
-pub fn bytes(out: &mut [u8], at: usize, s: &[u8]) -> usize
-    ensures { Inked out.old at out.new result s.now }
+// As much of the text as there is room for.
+pub fn bytes(writer: &mut Writer, s: &[u8])
+    ensures lent { writer.new.out.ghost_name ≡ writer.old.out.ghost_name }
+    ensures text { Inks writer.old writer.new s.now }
 {
-    let mut past = at;
-    let mut i = 0;
-    while i < s.len() {
-        let b = s[i];
-        i += 1;
-        past = byte(out, past, b);
+    if writer.out.len() <= writer.at {
+        return;
     }
-    past
+    let room = writer.out.len() - writer.at;
+    writer.put_bytes(&s[..room.min(s.len())]);
 }
 
-pub fn decimal(out: &mut [u8], at: usize, n: u64) -> usize
-    ensures { Inked out.old at out.new result (decimal_text n) }
+pub fn decimal(writer: &mut Writer, n: u64)
+    ensures lent { writer.new.out.ghost_name ≡ writer.old.out.ghost_name }
+    ensures text { Inks writer.old writer.new (decimal_text n) }
 {
     let mut digits = [0u8; 20];
     let k = io::decimal(n, &mut digits);
-    bytes(out, at, &digits[..k])
+    bytes(writer, &digits[..k]);
 }
 
 // A flag as 0 or 1.
-pub fn flag(out: &mut [u8], at: usize, on: bool) -> usize
-    ensures { Inked out.old at out.new result (flag_text on) }
+pub fn flag(writer: &mut Writer, on: bool)
+    ensures lent { writer.new.out.ghost_name ≡ writer.old.out.ghost_name }
+    ensures text { Inks writer.old writer.new (flag_text on) }
 {
-    if on {
-        return byte(out, at, b'1');
-    }
-    byte(out, at, b'0')
+    byte(writer, if on { b'1' } else { b'0' });
 }
 
 // The hex digit of the number's last four bits.
 fn digit(n: u8) -> u8
     ensures { result ≡ hex_digit (n % 16) }
 {
-    let d = n % 16;
-    if d < 10 {
-        return 48 + d;
+    match n % 16 {
+        d @ 0..=9 => b'0' + d,
+        d => b'A' - 10 + d,
     }
-    55 + d
 }
 
 // A byte as two hex digits.
-pub fn pair(out: &mut [u8], at: usize, b: u8) -> usize
-    ensures { Inked out.old at out.new result (pair_text b) }
+pub fn pair(writer: &mut Writer, b: u8)
+    ensures lent { writer.new.out.ghost_name ≡ writer.old.out.ghost_name }
+    ensures text { Inks writer.old writer.new (pair_text b) }
 {
-    let high = digit(b / 16);
-    let low = digit(b);
-    let past = byte(out, at, high);
-    byte(out, past, low)
+    bytes(writer, &[digit(b / 16), digit(b)]);
 }
 
 // Each byte as two hex digits.
-pub fn hex(out: &mut [u8], at: usize, s: &[u8]) -> usize
-    ensures { Inked out.old at out.new result (hex_text s.now) }
+pub fn hex(writer: &mut Writer, s: &[u8])
+    ensures lent { writer.new.out.ghost_name ≡ writer.old.out.ghost_name }
+    ensures text { Inks writer.old writer.new (hex_text s.now) }
 {
-    let mut past = at;
-    let mut i = 0;
-    while i < s.len() {
-        let b = s[i];
-        i += 1;
-        past = pair(out, past, b);
+    for b in s {
+        pair(writer, *b);
     }
-    past
 }
 
 // A float as the eight hex digits of its pattern.
-pub fn float(out: &mut [u8], at: usize, x: f32) -> usize
-    ensures { Inked out.old at out.new result (float_text x) }
+pub fn float(writer: &mut Writer, x: f32)
+    ensures lent { writer.new.out.ghost_name ≡ writer.old.out.ghost_name }
+    ensures text { Inks writer.old writer.new (float_text x) }
 {
-    let bits = pattern::to_pattern(x);
-    let first = (bits / 16777216) as u8;
-    let second = (bits / 65536 % 256) as u8;
-    let third = (bits / 256 % 256) as u8;
-    let fourth = (bits % 256) as u8;
-    let word = [first, second, third, fourth];
-    hex(out, at, &word)
+    hex(writer, &pattern::to_pattern(x).to_be_bytes());
 }
 
 // Each float as its eight hex digits.
-pub fn floats(out: &mut [u8], at: usize, xs: &[f32]) -> usize
-    ensures { Inked out.old at out.new result (each float_text xs.now) }
+pub fn floats(writer: &mut Writer, xs: &[f32])
+    ensures lent { writer.new.out.ghost_name ≡ writer.old.out.ghost_name }
+    ensures text { Inks writer.old writer.new (each float_text xs.now) }
 {
-    let mut past = at;
-    let mut i = 0;
-    while i < xs.len() {
-        let x = xs[i];
-        i += 1;
-        past = float(out, past, x);
+    for x in xs {
+        float(writer, *x);
     }
-    past
 }
 
 // The log's rows from number `from` up to number `used`, as hex digits.
-pub fn rows(out: &mut [u8], at: usize, log: &[u8], from: usize, used: usize) -> usize
-    ensures { Inked out.old at out.new result (rows_text log.now from used) }
+pub fn rows(writer: &mut Writer, log: &[u8], from: usize, used: usize)
+    ensures lent { writer.new.out.ghost_name ≡ writer.old.out.ghost_name }
+    ensures text { Inks writer.old writer.new (rows_text log.now from used) }
 {
-    if log.len() / 16 < used {
-        return at;
+    if log.len() / 16 < used || used < from {
+        return;
     }
-    if used < from {
-        return at;
-    }
-    let start = 16 * from;
-    let end = 16 * used;
-    hex(out, at, &log[start..end])
+    hex(writer, &log[16 * from..16 * used]);
 }

@@ -1,5 +1,5 @@
 // The calls that the bay's keeper has. Nothing is asked of the caller: what a call needs is tested, and an
-// answer says what was missing.
+// answer says what was missing. Each is one call of `rack_call::call`, under the name that the keeper calls.
 #![tactic(auto)]
 
 ghost use Rattle.std.specs.Prelude.{◌≡◌, [], length};
@@ -26,8 +26,7 @@ pub fn start(
     ensures { Leaves (called rack slot (Call.Start settings present) (free_rows used (length log.old)) replies.now []) used log.old result log.new }
 {
     let asked = Call::Start(settings, present);
-    let mut none = [0.0; 0];
-    rack_call::call(rack, slot, asked, log, used, replies, &mut none)
+    rack_call::call(rack, slot, asked, log, used, replies, &mut [])
 }
 
 // The start of the day.
@@ -41,10 +40,8 @@ pub fn startup(
 ) -> Turn
     ensures { Leaves (called rack slot (Call.Ask Request.Startup givens) (free_rows used (length log.old)) replies.now []) used log.old result log.new }
 {
-    let request = Request::Startup;
-    let asked = Call::Ask(request, givens);
-    let mut none = [0.0; 0];
-    rack_call::call(rack, slot, asked, log, used, replies, &mut none)
+    let asked = Call::Ask(Request::Startup, givens);
+    rack_call::call(rack, slot, asked, log, used, replies, &mut [])
 }
 
 // The periodic update.
@@ -58,10 +55,8 @@ pub fn update(
 ) -> Turn
     ensures { Leaves (called rack slot (Call.Ask Request.Update givens) (free_rows used (length log.old)) replies.now []) used log.old result log.new }
 {
-    let request = Request::Update;
-    let asked = Call::Ask(request, givens);
-    let mut none = [0.0; 0];
-    rack_call::call(rack, slot, asked, log, used, replies, &mut none)
+    let asked = Call::Ask(Request::Update, givens);
+    rack_call::call(rack, slot, asked, log, used, replies, &mut [])
 }
 
 // The reset button.
@@ -75,10 +70,8 @@ pub fn reset(
 ) -> Turn
     ensures { Leaves (called rack slot (Call.Ask Request.Reset givens) (free_rows used (length log.old)) replies.now []) used log.old result log.new }
 {
-    let request = Request::Reset;
-    let asked = Call::Ask(request, givens);
-    let mut none = [0.0; 0];
-    rack_call::call(rack, slot, asked, log, used, replies, &mut none)
+    let asked = Call::Ask(Request::Reset, givens);
+    rack_call::call(rack, slot, asked, log, used, replies, &mut [])
 }
 
 // The standby button.
@@ -92,10 +85,8 @@ pub fn standby(
 ) -> Turn
     ensures { Leaves (called rack slot (Call.Ask Request.Standby givens) (free_rows used (length log.old)) replies.now []) used log.old result log.new }
 {
-    let request = Request::Standby;
-    let asked = Call::Ask(request, givens);
-    let mut none = [0.0; 0];
-    rack_call::call(rack, slot, asked, log, used, replies, &mut none)
+    let asked = Call::Ask(Request::Standby, givens);
+    rack_call::call(rack, slot, asked, log, used, replies, &mut [])
 }
 
 // New settings.
@@ -110,10 +101,8 @@ pub fn settings(
 ) -> Turn
     ensures { Leaves (called rack slot (Call.Ask (Request.Settings settings) givens) (free_rows used (length log.old)) replies.now []) used log.old result log.new }
 {
-    let request = Request::Settings(settings);
-    let asked = Call::Ask(request, givens);
-    let mut none = [0.0; 0];
-    rack_call::call(rack, slot, asked, log, used, replies, &mut none)
+    let asked = Call::Ask(Request::Settings(settings), givens);
+    rack_call::call(rack, slot, asked, log, used, replies, &mut [])
 }
 
 // The seven measurements, into the first places of the caller's numbers.
@@ -129,7 +118,6 @@ pub fn status(
 ) -> Turn
     ensures { Leaves (called rack slot (Call.Ask (Request.Status detectors) givens) (free_rows used (length log.old)) replies.now numbers.old) used log.old result log.new × (numbers.new ≡ (called rack slot (Call.Ask (Request.Status detectors) givens) (free_rows used (length log.old)) replies.now numbers.old).numbers) }
 {
-    let request = Request::Status(detectors);
-    let asked = Call::Ask(request, givens);
+    let asked = Call::Ask(Request::Status(detectors), givens);
     rack_call::call(rack, slot, asked, log, used, replies, numbers)
 }

@@ -25,12 +25,10 @@ pub fn call(
     let standing = slots::slot_at(rack, slot);
     let place = Place { slot, used };
     let stepped = slot_call::step(log, replies, numbers, place, standing, call);
-    let left = stepped.standing;
-    let rack = slots::put_at(rack, slot, left);
-    let verdict = stepped.verdict;
+    let rack = slots::put_at(rack, slot, stepped.standing);
     Turn {
         rack,
-        verdict,
+        verdict: stepped.verdict,
         used: stepped.used,
     }
 }

@@ -1,4 +1,5 @@
 -- What a call that is let in leaves, by its answer (`acts_gives`), and that it shows numbers only beside a 0 (`shown_stays`). Assumes nothing.
+use Rattle.std.specs.Prelude.{Result, Ok, Err}
 use Prim.Native.Nat.{ℕ}
 use mathlib.Core.Path.{◌≡◌, refl}
 use mathlib.Core.List.{List, [], ◌++◌, append-nil}
@@ -14,10 +15,6 @@ use Rattle.rf_channel.specs.declared.States.{States}
 use Rattle.rf_channel.specs.declared.Action.{Action}
 use Rattle.rf_plan.specs.Table.{table}
 use Rattle.rf_plan.specs.Plan.{planned}
-use Rattle.rf_machine.specs.declared.Effect.{Effect}
-use Rattle.rf_machine.specs.declared.Effect.TheVariants.{Did, Stop}
-use Rattle.rf_machine.specs.declared.Step.{Step}
-use Rattle.rf_machine.specs.declared.Step.TheVariants.{Went, Stopped as Stops}
 use Rattle.rf_machine.specs.declared.Told.TheVariants.{Moved, NoTransition as NotListed, GuardFalse as NotAllowed}
 use Rattle.rf_machine.specs.Hardware.{hardware}
 use Rattle.rf_machine.specs.Event.{arrived, carry, process_event}
@@ -31,15 +28,9 @@ use Rattle.rf_call.specs.Outcome.{slot_of, reset_answer}
 use Rattle.rf_call.specs.Calls.{halting, after_event, answering, quietly, interlock_reset, handle_startup, standing}
 use Rattle.rf_update.specs.Update.{updating}
 use Rattle.rf_changes.specs.Changes.{same, changes_of, stored, event_of}
-use Rattle.rf_settings.specs.declared.Applied.{Applied}
-use Rattle.rf_settings.specs.declared.Applied.TheVariants.{Ok, Err}
-use Rattle.rf_settings.specs.declared.Written.{Written}
-use Rattle.rf_settings.specs.declared.Written.TheVariants.{Fine, Failed}
 use Rattle.rf_settings.specs.declared.Wrong.{Wrong}
 use Rattle.rf_settings.specs.declared.Wrong.TheVariants as W
 use Rattle.rf_settings.specs.Settings.{on_follow, applied_to, apply_settings, following, refusing, on_applied, handle_settings}
-use Rattle.rf_status.specs.declared.Measures.{Measures}
-use Rattle.rf_status.specs.declared.Measures.TheVariants.{All, Stopped}
 use Rattle.rf_status.specs.Numbers.{shown_of}
 use Rattle.rf_status.specs.Status.{on_measures, getting_status}
 use Rattle.rf_start.specs.Start.{starting}
@@ -60,6 +51,9 @@ use Rattle.rack_theorems.proofs.Seen.{any_event, keeps_ask}
 use Rattle.rf_machine.proofs.Gives.{Gives, gives_any, gives_done, gives_cond, gives_bind, gives_mapped}
 use Rattle.rack_theorems.proofs.Writes.{Chipped, Wrote, wrote_changes}
 use Rattle.rack_theorems.proofs.Ends.{Ends, ends_after, ends_halting, ends_quietly, ends_follow, ends_updating, ends_status, ends_starting}
+use Rattle.rf_machine.specs.declared.Cause.{Cause}
+use Rattle.rf_machine.specs.declared.Told.{Told}
+use Rattle.rf_status.specs.declared.Numbers.{Numbers}
 
 -- ---- what a call on s leaves
 
@@ -107,16 +101,16 @@ module _ (n : ℕ) (s : Slot) (call : Call) where
 
 -- ---- a reset: an event that the table does not list, or that a guard stops, leaves the channel and adds no row
 
-unfoldable Says : RfChannel → List Row → Step → Type 0
-Says c rows (Went x Moved) = Unit
-Says c rows (Went x NotListed) = Untouched (S.Channel c) rows x
-Says c rows (Went x NotAllowed) = Untouched (S.Channel c) rows x
-Says c rows (Stops cause) = Unit
+unfoldable Says : RfChannel → List Row → Result (RfChannel × Told) Cause → Type 0
+Says c rows (Ok (x, Moved)) = Unit
+Says c rows (Ok (x, NotListed)) = Untouched (S.Channel c) rows x
+Says c rows (Ok (x, NotAllowed)) = Untouched (S.Channel c) rows x
+Says c rows (Err cause) = Unit
 
-says_arrived : (c : RfChannel) (action : Action) (state : States) (rows : List Row) (x : Effect) → Unit {0} → Says c rows (arrived c action state x)
+says_arrived : (c : RfChannel) (action : Action) (state : States) (rows : List Row) (x : Result (Unit {0}) Cause) → Unit {0} → Says c rows (arrived c action state x)
 unfolding Says
-says_arrived c action state rows Did u = tt
-says_arrived c action state rows (Stop cause) u = tt
+says_arrived c action state rows (Ok tt) u = tt
+says_arrived c action state rows (Err cause) u = tt
 
 says_carry : (n : ℕ) (c : RfChannel) (plan : Plan) → Gives n (carry c plan) (Says c)
 unfolding carry Says
@@ -125,12 +119,12 @@ says_carry n c P.GuardFalse = gives_done _ (record { stays = refl; none = refl }
 says_carry n c (P.Go action state) = gives_mapped _ _ (gives_any (hardware action c.settings)) (says_arrived c action state)
 
 module _ (n : ℕ) (c : RfChannel) (call : Call) where
-  on_said : (rows : List Row) (x : Step) → Says c rows x → Gives n (after_event (λ c' told. done (Live c' (reset_answer told))) x) (λ more o. Acted n (S.Channel c) call (rows ++ more) o)
+  on_said : (rows : List Row) (x : Result (RfChannel × Told) Cause) → Says c rows x → Gives n (after_event (λ c' told. done (Live c' (reset_answer told))) x) (λ more o. Acted n (S.Channel c) call (rows ++ more) o)
   unfolding after_event Says Acted
-  on_said rows (Went x Moved) h = gives_done _ tt
-  on_said rows (Went x NotListed) h = gives_done _ (rw (append-nil rows) h)
-  on_said rows (Went x NotAllowed) h = gives_done _ (rw (append-nil rows) h)
-  on_said rows (Stops cause) h = acted_after n (S.Channel c) call rows (halting cause) (ends_halting _ n cause)
+  on_said rows (Ok (x, Moved)) h = gives_done _ tt
+  on_said rows (Ok (x, NotListed)) h = gives_done _ (rw (append-nil rows) h)
+  on_said rows (Ok (x, NotAllowed)) h = gives_done _ (rw (append-nil rows) h)
+  on_said rows (Err cause) h = acted_after n (S.Channel c) call rows (halting cause) (ends_halting _ n cause)
 
   acted_reset : (g : Givens) → Gives n (interlock_reset c g) (Acted n (S.Channel c) call)
   unfolding interlock_reset answering process_event
@@ -139,32 +133,32 @@ module _ (n : ℕ) (c : RfChannel) (call : Call) where
 -- ---- new settings
 
 module _ (n : ℕ) (c : RfChannel) (s : ChannelSettings) (g : Givens) where
-  unfoldable Took : List Row → Applied → Type 0
+  unfoldable Took : List Row → Result RfChannel (RfChannel × Wrong) → Type 0
   Took rows (Ok x) = Unit
-  Took rows (Err x wrong) = (x ≡ stored c s) × Wrote n rows (Failed wrong)
+  Took rows (Err (x, wrong)) = (x ≡ stored c s) × Wrote n rows (Err wrong)
 
-  took : (rows : List Row) (w : Written) → Wrote n rows w → Took rows (applied_to (stored c s) w)
+  took : (rows : List Row) (w : Result (Unit {0}) Wrong) → Wrote n rows w → Took rows (applied_to (stored c s) w)
   unfolding Took
-  took rows Fine h = tt
-  took rows (Failed wrong) h = (refl, h)
+  took rows (Ok tt) h = tt
+  took rows (Err wrong) h = (refl, h)
 
   took_settings : Gives n (apply_settings c s) Took
   unfolding apply_settings Took
   took_settings = gives_cond (same c.settings s) _ _ (gives_done _ tt) (gives_mapped _ _ (wrote_changes n (changes_of c.settings s) s) took)
 
-  kept : (rows : List Row) (x : RfChannel) (w : Written) → x ≡ stored c s → Wrote n rows w → Kept (S.Channel c) (Ask (Settings s) g) (rows ++ []) x
+  kept : (rows : List Row) (x : RfChannel) (w : Result (Unit {0}) Wrong) → x ≡ stored c s → Wrote n rows w → Kept (S.Channel c) (Ask (Settings s) g) (rows ++ []) x
   kept rows x w e h = record { channel = c; settings = s; givens = g; before = refl; asked = refl; after = e; moves = rw (append-nil rows) h.moves }
 
-  on_wrong : (rows : List Row) (x : RfChannel) (wrong : Wrong) → x ≡ stored c s → Wrote n rows (Failed wrong) → Gives n (refusing x wrong) (λ more o. Acted n (S.Channel c) (Ask (Settings s) g) (rows ++ more) o)
+  on_wrong : (rows : List Row) (x : RfChannel) (wrong : Wrong) → x ≡ stored c s → Wrote n rows (Err wrong) → Gives n (refusing x wrong) (λ more o. Acted n (S.Channel c) (Ask (Settings s) g) (rows ++ more) o)
   unfolding refusing Acted Chipped
   on_wrong rows x W.Range e h = gives_done _ (kept rows x _ e h)
   on_wrong rows x W.Chip e h = gives_done _ (kept rows x _ e h, rw (append-nil rows) h.chip)
   on_wrong rows x W.Bus e h = acted_after n _ _ rows (halting _) (ends_halting _ n _)
 
-  on_took : (rows : List Row) (x : Applied) → Took rows x → Gives n (on_applied s.state g x) (λ more o. Acted n (S.Channel c) (Ask (Settings s) g) (rows ++ more) o)
+  on_took : (rows : List Row) (x : Result RfChannel (RfChannel × Wrong)) → Took rows x → Gives n (on_applied s.state g x) (λ more o. Acted n (S.Channel c) (Ask (Settings s) g) (rows ++ more) o)
   unfolding on_applied following Took
   on_took rows (Ok x) h = acted_after n _ _ rows (on_follow x g (event_of x.state s.state)) (ends_follow _ n x g _)
-  on_took rows (Err x wrong) h = on_wrong rows x wrong h.0 h.1
+  on_took rows (Err (x, wrong)) h = on_wrong rows x wrong h.0 h.1
 
   acted_settings : Gives n (handle_settings c s g) (Acted n (S.Channel c) (Ask (Settings s) g))
   unfolding handle_settings
@@ -235,10 +229,10 @@ NotDone Absent = Unit
 NotDone (Halted cause) = Unit
 
 module _ (rs : List ℕ) (n taken : ℕ) (l : List Float) where
-  not_shown : (c : RfChannel) (g : Givens) (m : Measures) (after : ℕ) → NotDone (on_measures c g m rs n after).ans → shown_of m l ≡ l
+  not_shown : (c : RfChannel) (g : Givens) (m : Result Numbers Cause) (after : ℕ) → NotDone (on_measures c g m rs n after).ans → shown_of m l ≡ l
   unfolding on_measures shown_of done
-  not_shown c g (All numbers) after h = absurd h
-  not_shown c g (Stopped cause) after h = refl
+  not_shown c g (Ok numbers) after h = absurd h
+  not_shown c g (Err cause) after h = refl
 
   shown_request : (c : RfChannel) (r : Request) (g : Givens) → NotDone (requested c r g rs n taken).ans → shown_by c r g rs n taken l ≡ l
   unfolding requested shown_by getting_status bind

@@ -1,4 +1,5 @@
 -- A judgement on runs: the run m adds k rows at most, whatever the replies are. Rules for the pieces of a run, and the chips. Assumes nothing.
+use Rattle.std.specs.Prelude.{Option, Some, None, Result, Ok, Err}
 use Prim.Native.Nat.{ℕ, ◌+◌, ◌≤◌}
 use native.Mathlib.Omega.{arith}
 use mathlib.Core.Bool.{Bool, true, false, cond}
@@ -7,13 +8,9 @@ use lib.Dec.{lit≤}
 use lib.Ieee.{Float}
 use lib.ListN.{length, length-append}
 use Rattle.bus.specs.declared.Eight.{Eight}
-use Rattle.bus.specs.declared.Got.{Got}
-use Rattle.bus.specs.declared.Got.TheVariants.{Acked, Failed}
 use Rattle.bus.specs.declared.Note.{Note}
 use Rattle.bus.specs.declared.Transfer.{Transfer}
 use Rattle.bus.specs.Run.{Ran, Run, done, bind, mapped, note, transfer, on_got, try}
-use Rattle.conversions.specs.declared.Conversion.{Conversion}
-use Rattle.conversions.specs.declared.Conversion.TheVariants.{Code, Range}
 use Rattle.conversions.specs.Codes.{dac7571_code}
 use Rattle.mcp3221.specs.Voltage as Mcp3221
 use Rattle.dac7571.specs.Voltage as Dac7571
@@ -22,6 +19,7 @@ use Rattle.ad5627.specs.Opening as Ad5627Opening
 use Rattle.ad5627.specs.Voltage as Ad5627
 use Rattle.ads7924.specs.declared.Channel.{Channel}
 use Rattle.ads7924.specs.Calls as Ads7924
+use Rattle.bus.specs.declared.Failed.{Failed}
 
 pub record Short {A : Type 0} (k : ℕ) (x : Ran A) : Type 0 where
   pub rows : length x.rows ≤ k
@@ -56,10 +54,10 @@ pub most_transfer : (t : Transfer) → AtMost 1 (transfer t)
 unfolding transfer
 most_transfer t rs slot taken = record { rows = lit≤ tt }
 
-most_got : {A : Type 0} (k : ℕ) (a : A) (f : Eight → Run A) → ((d : Eight) → AtMost k (f d)) → (g : Got) → AtMost k (on_got a f g)
+most_got : {A : Type 0} (k : ℕ) (a : A) (f : Eight → Run A) → ((d : Eight) → AtMost k (f d)) → (g : Result Eight Failed) → AtMost k (on_got a f g)
 unfolding on_got
-most_got k a f x (Acked d) = x d
-most_got k a f x Failed = most_done k a
+most_got k a f x (Ok d) = x d
+most_got k a f x (Err e) = most_done k a
 
 pub most_try : {A : Type 0} (k : ℕ) (t : Transfer) (a : A) (f : Eight → Run A) → ((d : Eight) → AtMost k (f d)) → AtMost (1 + k) (try t a f)
 most_try k t a f x = most_bind 1 k (transfer t) (on_got a f) (most_transfer t) (most_got k a f x)
@@ -74,9 +72,9 @@ pub most_mcp3221 : (supply : Float) → AtMost 1 (Mcp3221.get_voltage supply)
 unfolding Mcp3221.get_voltage
 most_mcp3221 supply = most_try 0 _ _ _ (λ d. most_done 0 _)
 
-dac7571_code_lem : (x : Conversion) → AtMost 1 (Dac7571.send_code x)
-dac7571_code_lem (Code code) = most_try 0 _ _ _ (λ d. most_done 0 _)
-dac7571_code_lem Range = most_done 1 _
+dac7571_code_lem : (x : Option ℕ) → AtMost 1 (Dac7571.send_code x)
+dac7571_code_lem (Some code) = most_try 0 _ _ _ (λ d. most_done 0 _)
+dac7571_code_lem None = most_done 1 _
 
 pub most_dac7571 : (v : Float) → AtMost 1 (Dac7571.set_voltage v)
 unfolding Dac7571.set_voltage
@@ -86,9 +84,9 @@ pub most_ad5627_opening : AtMost 2 Ad5627Opening.opening
 unfolding Ad5627Opening.opening
 most_ad5627_opening = most_try 1 _ _ _ (λ d. most_try 0 _ _ _ (λ e. most_done 0 _))
 
-pub most_ad5627 : (dac : Dac) (x : Conversion) → AtMost 1 (Ad5627.send_code dac x)
-most_ad5627 dac (Code code) = most_try 0 _ _ _ (λ d. most_done 0 _)
-most_ad5627 dac Range = most_done 1 _
+pub most_ad5627 : (dac : Dac) (x : Option ℕ) → AtMost 1 (Ad5627.send_code dac x)
+most_ad5627 dac (Some code) = most_try 0 _ _ _ (λ d. most_done 0 _)
+most_ad5627 dac None = most_done 1 _
 
 pub most_ads7924_opening : AtMost 5 Ads7924.opening
 unfolding Ads7924.opening

@@ -1,4 +1,5 @@
 -- A judgement on runs: with j rows before it, the run m ends with f of its answer at most, whatever the replies are. So a run that stops early may be said to cost less. Rules for the pieces of a run, and the events. Assumes nothing.
+use Rattle.std.specs.Prelude.{Result, Ok, Err}
 use Prim.Native.Nat.{ℕ, ◌+◌, ◌≤◌}
 use native.Mathlib.Omega.{arith}
 use mathlib.Core.Bool.{Bool, true, false, cond}
@@ -10,7 +11,6 @@ use lib.ListN.{length, length-append}
 use Rattle.bus.specs.declared.Note.{Note}
 use Rattle.bus.specs.Run.{Ran, Run, done, bind, mapped, note}
 use Rattle.rf_channel.specs.declared.Action.{Action}
-use Rattle.rf_channel.specs.declared.Action.TheVariants as Action
 use Rattle.rf_channel.specs.declared.ChannelFault.{ChannelFault}
 use Rattle.rf_channel.specs.declared.ChannelSettings.{ChannelSettings}
 use Rattle.rf_channel.specs.declared.Events.{Events}
@@ -23,14 +23,12 @@ use Rattle.rf_channel.specs.declared.States.TheVariants as St
 use Rattle.rf_channel.specs.Guards.{late_of, enable_of, lowest}
 use Rattle.rf_plan.specs.Table.{table}
 use Rattle.rf_plan.specs.Plan.{planned}
-use Rattle.rf_machine.specs.declared.Effect.{Effect}
-use Rattle.rf_machine.specs.declared.Effect.TheVariants.{Did, Stop}
-use Rattle.rf_machine.specs.declared.Step.{Step}
-use Rattle.rf_machine.specs.declared.Step.TheVariants.{Went, Stopped}
 use Rattle.rf_machine.specs.Hardware.{on_did, ◌and_then◌, pin, pinched, pinch_off, enabled, apply_bias, start_powerup, reset_interlocks, disable_rf_switch, start_disable, enable_output, hardware}
 use Rattle.rf_machine.specs.Event.{arrived, carry, process_event}
 use Rattle.rf_tests.specs.Tests.{is_blocked}
 use Rattle.rack_theorems.proofs.AtMost.{AtMost, most_note, most_dac7571}
+use Rattle.rf_machine.specs.declared.Cause.{Cause}
+use Rattle.rf_machine.specs.declared.Told.{Told}
 
 pub record Cost {A : Type 0} (j : ℕ) (f : A → ℕ) (x : Ran A) : Type 0 where
   pub rows : j + length x.rows ≤ f x.ans
@@ -73,24 +71,24 @@ module _ {A B : Type 0} where
 
 -- ---- the hardware: a where it did, b where it stopped
 
-abbrev pub effect : ℕ → ℕ → Effect → ℕ
-effect a b Did = a
-effect a b (Stop cause) = b
+abbrev pub effect : ℕ → ℕ → Result (Unit {0}) Cause → ℕ
+effect a b (Ok tt) = a
+effect a b (Err cause) = b
 
-same : (j : ℕ) (x : Effect) → j ≤ effect j j x
-same j Did = omega arith
-same j (Stop cause) = omega arith
+same : (j : ℕ) (x : Result (Unit {0}) Cause) → j ≤ effect j j x
+same j (Ok tt) = omega arith
+same j (Err cause) = omega arith
 
-up : (a c b d : ℕ) → a ≤ c → b ≤ d → (x : Effect) → effect a b x ≤ effect c d x
-up a c b d h k Did = h
-up a c b d h k (Stop cause) = k
+up : (a c b d : ℕ) → a ≤ c → b ≤ d → (x : Result (Unit {0}) Cause) → effect a b x ≤ effect c d x
+up a c b d h k (Ok tt) = h
+up a c b d h k (Err cause) = k
 
-on_did_lem : (a b c d : ℕ) (n : Run Effect) → b ≤ d → Within a (effect c d) n → (x : Effect) → Within (effect a b x) (effect c d) (on_did n x)
+on_did_lem : (a b c d : ℕ) (n : Run (Result (Unit {0}) Cause)) → b ≤ d → Within a (effect c d) n → (x : Result (Unit {0}) Cause) → Within (effect a b x) (effect c d) (on_did n x)
 unfolding on_did
-on_did_lem a b c d n h y Did = y
-on_did_lem a b c d n h y (Stop cause) = within_done b (effect c d) (Stop cause) h
+on_did_lem a b c d n h y (Ok tt) = y
+on_did_lem a b c d n h y (Err cause) = within_done b (effect c d) (Err cause) h
 
-within_then : (j a b c d : ℕ) (m n : Run Effect) → Within j (effect a b) m → b ≤ d → Within a (effect c d) n → Within j (effect c d) (m and_then n)
+within_then : (j a b c d : ℕ) (m n : Run (Result (Unit {0}) Cause)) → Within j (effect a b) m → b ≤ d → Within a (effect c d) n → Within j (effect c d) (m and_then n)
 within_then j a b c d m n x h y = within_bind j (effect a b) (effect c d) m (on_did n) x (on_did_lem a b c d n h y)
 
 within_pin : (j : ℕ) (n : Note) → Within j (effect (j + 1) 0) (pin n)
@@ -123,7 +121,7 @@ within_enable s =
 
 pub within_hardware : (action : Action) (s : ChannelSettings) → Within 0 (effect 3 2) (hardware action s)
 unfolding hardware start_powerup disable_rf_switch
-within_hardware Action.Nothing s = within_done 0 (effect 3 2) Did (lit≤ tt)
+within_hardware Action.Nothing s = within_done 0 (effect 3 2) (Ok tt) (lit≤ tt)
 within_hardware Action.StartPowerup s = within_then 0 1 1 3 2 _ _ (within_pinch 0) (lit≤ tt) (within_less 1 (effect 2 0) (effect 3 2) _ (up 2 3 0 2 (lit≤ tt) (lit≤ tt)) (within_pin 1 _))
 within_hardware Action.ResetInterlocks s = within_less 0 (effect 3 0) (effect 3 2) _ (up 3 3 0 2 (lit≤ tt) (lit≤ tt)) within_reset
 within_hardware Action.EnableOutput s = within_less 0 (effect 2 1) (effect 3 2) _ (up 2 3 1 2 (lit≤ tt) (lit≤ tt)) (within_enable s)
@@ -134,13 +132,13 @@ within_hardware Action.DisableRfSwitch s = within_less 0 (effect 1 0) (effect 3 
 
 -- ---- the events: a where the channel went on, b where it stopped
 
-abbrev pub step : ℕ → ℕ → Step → ℕ
-step a b (Went c told) = a
-step a b (Stopped cause) = b
+abbrev pub step : ℕ → ℕ → Result (RfChannel × Told) Cause → ℕ
+step a b (Ok (c, told)) = a
+step a b (Err cause) = b
 
-arrives : (a b : ℕ) (c : RfChannel) (action : Action) (state : States) (x : Effect) → effect a b x ≤ step a b (arrived c action state x)
-arrives a b c action state Did = omega arith
-arrives a b c action state (Stop cause) = omega arith
+arrives : (a b : ℕ) (c : RfChannel) (action : Action) (state : States) (x : Result (Unit {0}) Cause) → effect a b x ≤ step a b (arrived c action state x)
+arrives a b c action state (Ok tt) = omega arith
+arrives a b c action state (Err cause) = omega arith
 
 -- the work of a plan
 abbrev Works : ℕ → ℕ → Plan → Type 0
@@ -178,7 +176,7 @@ switches s = within_less 0 (effect 2 1) (effect 3 1) (enable_output s) (up 2 3 1
 
 sets_nothing : (s : ChannelSettings) → Within 0 (effect 3 1) (hardware Action.Nothing s)
 unfolding hardware
-sets_nothing s = within_done 0 (effect 3 1) Did (lit≤ tt)
+sets_nothing s = within_done 0 (effect 3 1) (Ok tt) (lit≤ tt)
 
 update_works : (c : RfChannel) (tick : ℕ) (watchdog : Bool) (s : States) → c.state ≡ s → Works 3 1 (planned table c E.Update tick watchdog)
 unfolding planned table
@@ -195,9 +193,9 @@ unfolding process_event
 within_update c tick watchdog = within_carry 3 1 c _ (update_works c tick watchdog c.state refl)
 
 -- the event of a fault leads to Blocked: 3 rows where it went on
-abbrev pub blocking : Step → ℕ
-blocking (Went c told) = cond (is_blocked c.state) 3 0
-blocking (Stopped cause) = 2
+abbrev pub blocking : Result (RfChannel × Told) Cause → ℕ
+blocking (Ok (c, told)) = cond (is_blocked c.state) 3 0
+blocking (Err cause) = 2
 
 abbrev Blocks : Plan → Type 0
 Blocks NoTransition = Unit
@@ -214,9 +212,9 @@ fault_blocks c f tick watchdog St.Enabled h = rw h refl
 fault_blocks c f tick watchdog (St.Tripped i) h = rw h refl
 fault_blocks c f tick watchdog (St.Powerdown d) h = rw h refl
 
-arrives_blocked : (c : RfChannel) (action : Action) (state : States) → is_blocked state ≡ true → (x : Effect) → effect 3 2 x ≤ blocking (arrived c action state x)
-arrives_blocked c action state h Did = rw h (lit≤ tt)
-arrives_blocked c action state h (Stop cause) = lit≤ tt
+arrives_blocked : (c : RfChannel) (action : Action) (state : States) → is_blocked state ≡ true → (x : Result (Unit {0}) Cause) → effect 3 2 x ≤ blocking (arrived c action state x)
+arrives_blocked c action state h (Ok tt) = rw h (lit≤ tt)
+arrives_blocked c action state h (Err cause) = lit≤ tt
 
 carry_blocking : (c : RfChannel) (plan : Plan) → Blocks plan → Within 0 blocking (carry c plan)
 unfolding carry

@@ -1,5 +1,6 @@
 -- The first demand (`demand_1`), from what one call leaves (`right`); and in numbers (`nothing_changed`). Assumes nothing.
-use Prim.Native.Nat.{ℕ, ◌≤◌, ◌<◌}
+use Rattle.std.specs.Prelude.{Result, Ok, Err}
+use Prim.Native.Nat.{◌≤◌, ◌<◌}
 use native.Mathlib.Omega.{arith}
 use mathlib.Core.Path.{◌≡◌, refl, ap, sym, ◌∙◌}
 use mathlib.Core.List.{List, [], ◌∷◌}
@@ -15,8 +16,6 @@ use Rattle.rf_call.specs.declared.Outcome.TheVariants.{Live, Absent, Halted}
 use Rattle.rf_call.specs.declared.Slot.{Slot}
 use Rattle.rf_call.specs.declared.Slot.TheVariants as S
 use Rattle.rf_call.specs.Outcome.{slot_of}
-use Rattle.entry.specs.declared.Entry.{Entry}
-use Rattle.entry.specs.declared.Entry.TheVariants.{Open, Shut}
 use Rattle.slots.specs.declared.Rack.{Rack}
 use Rattle.slots.specs.declared.Verdict.{Verdict}
 use Rattle.slots.specs.declared.Verdict.TheVariants as Said
@@ -29,6 +28,8 @@ use Rattle.rack_theorems.specs.Demand1.{Unchanged, Stored, SaysLow, LeftBy, Righ
 use Rattle.rack_theorems.proofs.Seen.{entry, let_in, own_rows}
 use Rattle.rack_theorems.proofs.Answers.{Untouched, Kept, Acted, acts_gives, absent_low, NotDone, shown_stays}
 use Rattle.rack_theorems.proofs.Bounds.{acts_at_most}
+use Rattle.entry.specs.declared.Admitted.{Admitted}
+use Rattle.entry.specs.declared.Refusal.{Refusal}
 
 module _ (rack : Rack) (a : Asked) (eight : Eight rack) where
   abbrev before : Slot
@@ -80,9 +81,9 @@ module _ (rack : Rack) (a : Asked) (eight : Eight rack) where
 
   -- ---- any call
 
-  goes : (x : Entry) → entry before a.slot a ≡ x → Right rack a (in_rack rack a.slot (through x a.slot before a.replies a.numbers))
+  goes : (x : Result Admitted Refusal) → entry before a.slot a ≡ x → Right rack a (in_rack rack a.slot (through x a.slot before a.replies a.numbers))
   unfolding written LeftBy Own
-  goes (Shut refusal) e =
+  goes (Err refusal) e =
       record {
         answer = record { rack_stays = put_same rack a.slot; log_stays = refl; count_stays = omega arith; numbers_stay = refl };
         others = put_there rack a.slot before;
@@ -92,7 +93,7 @@ module _ (rack : Rack) (a : Asked) (eight : Eight rack) where
         bytes = λ j h. refl;
         bays = put_length rack a.slot before ∙ eight;
       }
-  goes (Open b) e =
+  goes (Ok b) e =
       let p = let_in before a.slot a b e in
       let x = acts b a.replies a.slot 0 in
       let numbers = shown_to b a.replies a.slot 0 a.numbers in

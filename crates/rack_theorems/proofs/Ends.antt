@@ -3,16 +3,13 @@ use Prim.Native.Nat.{ℕ}
 use mathlib.Core.Path.{refl, ap, sym, ◌∙◌}
 use mathlib.Core.Bool.{Bool}
 use mathlib.Core.List.{List, [], ◌++◌, append_assoc}
+use Rattle.std.specs.Prelude.{Option, None, Some, Result, Ok, Err}
 use Rattle.bus.specs.Rows.{Row}
 use Rattle.bus.specs.Run.{Run, done, bind, note}
 use Rattle.rf_channel.specs.declared.ChannelSettings.{ChannelSettings}
 use Rattle.rf_channel.specs.declared.Events.{Events}
 use Rattle.rf_channel.specs.declared.RfChannel.{RfChannel}
 use Rattle.rf_machine.specs.declared.Cause.{Cause}
-use Rattle.rf_machine.specs.declared.Effect.{Effect}
-use Rattle.rf_machine.specs.declared.Effect.TheVariants.{Did, Stop}
-use Rattle.rf_machine.specs.declared.Step.{Step}
-use Rattle.rf_machine.specs.declared.Step.TheVariants.{Went, Stopped as Stops}
 use Rattle.rf_machine.specs.declared.Told.{Told}
 use Rattle.rf_call.specs.declared.Answer.TheVariants.{Done, NoTransition, GuardFalse, Range, Chip}
 use Rattle.rf_call.specs.declared.Givens.{Givens}
@@ -20,21 +17,16 @@ use Rattle.rf_call.specs.declared.Outcome.{Outcome}
 use Rattle.rf_call.specs.declared.Outcome.TheVariants.{Live, Absent, Halted}
 use Rattle.rf_call.specs.declared.Report.{Report}
 use Rattle.rf_call.specs.Calls.{halting, or_halt, after_event, answering, quietly}
-use Rattle.rf_update.specs.declared.Stage.{Stage}
-use Rattle.rf_update.specs.declared.Stage.TheVariants.{Going, Stopped}
 use Rattle.rf_update.specs.Update.{after_stage, finishing, updating}
-use Rattle.rf_changes.specs.declared.Follow.{Follow}
-use Rattle.rf_changes.specs.declared.Follow.TheVariants.{Nothing, Raise}
 use Rattle.rf_settings.specs.Settings.{on_follow}
 use Rattle.rf_status.specs.declared.Detectors.{Detectors}
-use Rattle.rf_status.specs.declared.Measures.{Measures}
-use Rattle.rf_status.specs.declared.Measures.TheVariants.{All, Stopped as NotAll}
 use Rattle.rf_status.specs.Status.{on_measures, getting_status}
 use Rattle.rf_start.specs.declared.Presence.{Presence}
 use Rattle.rf_start.specs.declared.Presence.TheVariants.{Present, Absent as NotThere}
 use Rattle.rf_start.specs.Start.{settling, if_present, starting}
 use Rattle.rack_theorems.specs.Demand1.{EndsLow}
 use Rattle.rf_machine.proofs.Gives.{Gives, gives_any, gives_done, gives_bind}
+use Rattle.rf_status.specs.declared.Numbers.{Numbers}
 
 -- ---- a run that is answered 0, or is absent where X holds, or halts
 
@@ -75,26 +67,26 @@ module _ (X : Type 0) (n : ℕ) where
 
   -- ---- events
 
-  ends_event : (k : RfChannel → Told → Report) (x : Step) → Gives n (after_event (λ c told. done (Live c (Done (k c told)))) x) (Ends X n)
+  ends_event : (k : RfChannel → Told → Report) (x : Result (RfChannel × Told) Cause) → Gives n (after_event (λ c told. done (Live c (Done (k c told)))) x) (Ends X n)
   unfolding after_event
-  ends_event k (Went c told) = ends_done c (k c told)
-  ends_event k (Stops cause) = ends_halting cause
+  ends_event k (Ok (c, told)) = ends_done c (k c told)
+  ends_event k (Err cause) = ends_halting cause
 
   pub ends_quietly : (e : Events) (c : RfChannel) (g : Givens) → Gives n (quietly e c g) (Ends X n)
   unfolding quietly answering
   ends_quietly e c g = ends_bind _ _ (ends_event _)
 
-  pub ends_follow : (c : RfChannel) (g : Givens) (x : Follow) → Gives n (on_follow c g x) (Ends X n)
+  pub ends_follow : (c : RfChannel) (g : Givens) (x : Option Events) → Gives n (on_follow c g x) (Ends X n)
   unfolding on_follow
-  ends_follow c g Nothing = ends_done c _
-  ends_follow c g (Raise e) = ends_quietly e c g
+  ends_follow c g None = ends_done c _
+  ends_follow c g (Some e) = ends_quietly e c g
 
   -- ---- the update
 
-  ends_stage : (k : RfChannel → Run Outcome) → ((c : RfChannel) → Gives n (k c) (Ends X n)) → (x : Stage) → Gives n (after_stage k x) (Ends X n)
+  ends_stage : (k : RfChannel → Run Outcome) → ((c : RfChannel) → Gives n (k c) (Ends X n)) → (x : Result RfChannel Cause) → Gives n (after_stage k x) (Ends X n)
   unfolding after_stage
-  ends_stage k f (Going c) = f c
-  ends_stage k f (Stopped cause) = ends_halting cause
+  ends_stage k f (Ok c) = f c
+  ends_stage k f (Err cause) = ends_halting cause
 
   ends_finishing : (g : Givens) (c : RfChannel) → Gives n (finishing g c) (Ends X n)
   unfolding finishing
@@ -106,10 +98,10 @@ module _ (X : Type 0) (n : ℕ) where
 
   -- ---- the status
 
-  ends_measures : (c : RfChannel) (g : Givens) (x : Measures) → Gives n (on_measures c g x) (Ends X n)
+  ends_measures : (c : RfChannel) (g : Givens) (x : Result Numbers Cause) → Gives n (on_measures c g x) (Ends X n)
   unfolding on_measures
-  ends_measures c g (All m) = ends_done _ _
-  ends_measures c g (NotAll cause) = ends_halting cause
+  ends_measures c g (Ok m) = ends_done _ _
+  ends_measures c g (Err cause) = ends_halting cause
 
   pub ends_status : (c : RfChannel) (d : Detectors) (g : Givens) → Gives n (getting_status c d g) (Ends X n)
   unfolding getting_status
@@ -117,10 +109,10 @@ module _ (X : Type 0) (n : ℕ) where
 
   -- ---- the start
 
-  ends_effect : (k : Run Outcome) → Gives n k (Ends X n) → (x : Effect) → Gives n (or_halt k x) (Ends X n)
+  ends_effect : (k : Run Outcome) → Gives n k (Ends X n) → (x : Result (Unit {0}) Cause) → Gives n (or_halt k x) (Ends X n)
   unfolding or_halt
-  ends_effect k h Did = h
-  ends_effect k h (Stop cause) = ends_halting cause
+  ends_effect k h (Ok tt) = h
+  ends_effect k h (Err cause) = ends_halting cause
 
   ends_present : X → (k : Run Outcome) → Gives n k (Ends X n) → (x : Presence) → Gives n (if_present k x) (Ends X n)
   unfolding if_present Ends

@@ -1,7 +1,8 @@
 -- What is let in, by what stands in the slot: a start where there is no channel, or a request with the channel that stands there (`found`). Assumes nothing.
+use Rattle.std.specs.Prelude.{Ok, Err, Result}
 use Prim.Native.Nat.{ℕ}
 use native.Mathlib.Omega.{arith}
-use mathlib.Core.Path.{◌≡◌, sym, subst}
+use mathlib.Core.Path.{◌≡◌, subst}
 use mathlib.Core.Bool.{Bool}
 use mathlib.Core.List.{[]}
 use Rattle.rf_channel.specs.declared.ChannelSettings.{ChannelSettings}
@@ -14,7 +15,6 @@ use Rattle.entry.specs.declared.Admitted.{Admitted}
 use Rattle.entry.specs.declared.Admitted.TheVariants as In
 use Rattle.entry.specs.declared.Call.{Call}
 use Rattle.entry.specs.declared.Call.TheVariants.{Start, Ask}
-use Rattle.entry.specs.declared.Entry.TheVariants.{Open, Shut}
 use Rattle.entry.specs.declared.Refusal.{Refusal}
 use Rattle.entry.specs.Tests.{of_standing}
 
@@ -25,12 +25,12 @@ NoChannel (S.Channel c) = ⊥
 
 -- a call finds what it is for
 abbrev pub Finds : Slot → Call → Admitted → Type 0
-Finds s call b = of_standing s call [] ≡ Open b
+Finds s call b = of_standing s call [] ≡ Ok b
 
-clash : {X : Type 0} {b : Admitted} {r : Refusal} → Shut r ≡ Open b → X
+clash : {X : Type 0} {b : Admitted} {r : Refusal} → Err r ≡ Ok b → X
 clash e = absurd (let z : ◌≡◌ {A = ℕ} 0 1 = cc in omega arith)
 
-same : {b b' : Admitted} → Open b ≡ Open b' → b ≡ b'
+same : {b b' : Admitted} → ◌≡◌ {A = Result Admitted Refusal} (Ok b) (Ok b') → b ≡ b'
 same e = cc
 
 module _ (P : Slot → Call → Admitted → Type 0) (start : (s : Slot) → NoChannel s → (settings : ChannelSettings) (present : Bool) → P s (Start settings present) (In.Start settings present))

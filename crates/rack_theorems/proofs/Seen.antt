@@ -1,4 +1,5 @@
 -- One call, seen from one slot: what a call that is let in keeps true of its own slot, every call keeps true of the slot, with the rows of the slot alone. A call that is refused changes nothing, and one to another slot leaves the slot and adds no row of it. Assumes nothing.
+use Rattle.std.specs.Prelude.{Result, Ok, Err}
 use Prim.Native.Nat.{ℕ, ◌<◌}
 use mathlib.Core.Path.{◌≡◌, refl, sym, ap, ◌∙◌}
 use mathlib.Core.Bool.{Bool, true, false, cond}
@@ -30,8 +31,6 @@ use Rattle.rf_theorems.proofs.Calls.{Ends, keeps_requested}
 use Rattle.rf_theorems.proofs.Start.{Starts, keeps_starting}
 use Rattle.entry.specs.declared.Admitted.{Admitted}
 use Rattle.entry.specs.declared.Admitted.TheVariants.{Start, Ask}
-use Rattle.entry.specs.declared.Entry.{Entry}
-use Rattle.entry.specs.declared.Entry.TheVariants.{Open, Shut}
 use Rattle.entry.specs.Tests.{free_rows, entry_of}
 use Rattle.entry.proofs.Laws.{entered}
 use Rattle.slots.specs.declared.Rack.{Rack}
@@ -41,6 +40,7 @@ use Rattle.slot_call.specs.Step.{acts, through, stepped}
 use Rattle.rack_call.specs.Calls.{called}
 use Rattle.rack_theorems.specs.History.{Asked, on, of_slot, Eight}
 use Rattle.rack_theorems.proofs.Found.{Finds}
+use Rattle.entry.specs.declared.Refusal.{Refusal}
 
 -- ---- a call that is let in
 
@@ -117,11 +117,11 @@ of_other n m (x ∷ xs) d o = rw (ne_eqb (slot_of_row x) n (λ e. d (sym o.0 ∙
 -- ---- any call
 
 -- how what stands in slot n is entered
-abbrev pub entry : Slot → ℕ → Asked → Entry
+abbrev pub entry : Slot → ℕ → Asked → Result Admitted Refusal
 entry s n a = entry_of n s a.call (free_rows a.used (length a.log)) (length a.replies) (length a.numbers)
 
 -- what is let in has found what it is for
-pub let_in : (s : Slot) (n : ℕ) (a : Asked) (b : Admitted) → entry s n a ≡ Open b → (n < 8) × Finds s a.call b
+pub let_in : (s : Slot) (n : ℕ) (a : Asked) (b : Admitted) → entry s n a ≡ Ok b → (n < 8) × Finds s a.call b
 let_in s n a b o = let p = entered n s a.call (free_rows a.used (length a.log)) (length a.replies) (length a.numbers) o in (p.0, p.2)
 
 pub eight_kept : (rack : Rack) (a : Asked) → Eight rack → Eight (on rack a).rack
@@ -133,9 +133,9 @@ pub own_added : (rack : Rack) (a : Asked) → Own a.slot (on rack a).rows
 unfolding called stepped Own
 own_added rack a = go (entry (slot_at rack a.slot) a.slot a)
   where
-    go : (e : Entry) → Own a.slot (through e a.slot (slot_at rack a.slot) a.replies a.numbers).rows
-    go (Shut refusal) = tt
-    go (Open b) = own_rows b a.replies a.slot 0
+    go : (e : Result Admitted Refusal) → Own a.slot (through e a.slot (slot_at rack a.slot) a.replies a.numbers).rows
+    go (Err refusal) = tt
+    go (Ok b) = own_rows b a.replies a.slot 0
 
 -- J holds in slot n, where the levels are p
 module _ (rack : Rack) (eight : Eight rack) (n : ℕ) (inside : n < 8) (J : Levels → Slot → Type 0) (p : Levels) (a : Asked) (stands : J p (slot_at rack n)) where
@@ -144,10 +144,10 @@ module _ (rack : Rack) (eight : Eight rack) (n : ℕ) (inside : n < 8) (J : Leve
   Keep = (b : Admitted) → Finds (slot_at rack n) a.call b → Keeps p (acts b) (λ q x. J q (slot_of x))
 
   -- a call to slot n itself
-  here : Keep → (e : Entry) → entry (slot_at rack n) n a ≡ e → let x = through e n (slot_at rack n) a.replies a.numbers in J (levels_after p (of_slot n x.rows)) (slot_at (put_at rack n x.standing) n)
+  here : Keep → (e : Result Admitted Refusal) → entry (slot_at rack n) n a ≡ e → let x = through e n (slot_at rack n) a.replies a.numbers in J (levels_after p (of_slot n x.rows)) (slot_at (put_at rack n x.standing) n)
   unfolding levels_after of_slot
-  here k (Shut refusal) o = rw (put_same rack n) stands
-  here k (Open b) o =
+  here k (Err refusal) o = rw (put_same rack n) stands
+  here k (Ok b) o =
       let x = acts b a.replies n 0 in
       let y = k b (let_in (slot_at rack n) n a b o).1 a.replies n 0 in
       rw (of_own n x.rows y.own, put_here rack n (slot_of x.ans) inside eight) y.holds

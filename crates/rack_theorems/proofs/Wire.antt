@@ -1,4 +1,5 @@
 -- Demand 3 on the wire, over any call on any slot: what holds of a start and of a request of a channel holds of every call, since one that is refused adds no row and is answered neither 11 nor 14. Assumes nothing.
+use Rattle.std.specs.Prelude.{Result, Ok, Err, None}
 use Prim.Native.Nat.{ℕ}
 use native.Mathlib.Omega.{arith}
 use mathlib.Core.Path.{◌≡◌, refl, sym, subst}
@@ -6,7 +7,6 @@ use mathlib.Core.Bool.{Bool}
 use mathlib.Core.Logic.{◌⊎◌}
 use mathlib.Core.List.{List}
 use lib.Ieee.{neg}
-use Rattle.conversions.specs.declared.Conversion.TheVariants as C
 use Rattle.conversions.specs.Codes.{dac7571_code}
 use Rattle.rf_channel.specs.declared.ChannelSettings.{ChannelSettings}
 use Rattle.rf_channel.specs.declared.RfChannel.{RfChannel}
@@ -27,8 +27,6 @@ use Rattle.wire_theorems.proofs.Refusals.{refused_for_range}
 use Rattle.entry.specs.declared.Admitted.{Admitted}
 use Rattle.entry.specs.declared.Call.{Call}
 use Rattle.entry.specs.declared.Call.TheVariants.{Start, Ask}
-use Rattle.entry.specs.declared.Entry.{Entry}
-use Rattle.entry.specs.declared.Entry.TheVariants.{Open, Shut}
 use Rattle.entry.specs.declared.Refusal.{Refusal}
 use Rattle.entry.specs.declared.Refusal.TheVariants as No
 use Rattle.entry.specs.Tests as E
@@ -51,14 +49,14 @@ sent : (rack : Rack) (a : Asked) → Every (Writes (MayWriteIn a.call)) (on rack
 unfolding called stepped Every
 sent rack a = go (entry (slot_at rack a.slot) a.slot a) refl
   where
-    go : (e : Entry) → entry (slot_at rack a.slot) a.slot a ≡ e → Every (Writes (MayWriteIn a.call)) (through e a.slot (slot_at rack a.slot) a.replies a.numbers).rows
-    go (Shut refusal) o = tt
-    go (Open b) o = written (slot_at rack a.slot) a.call b (let_in (slot_at rack a.slot) a.slot a b o).1 a.replies a.slot 0
+    go : (e : Result Admitted Refusal) → entry (slot_at rack a.slot) a.slot a ≡ e → Every (Writes (MayWriteIn a.call)) (through e a.slot (slot_at rack a.slot) a.replies a.numbers).rows
+    go (Err refusal) o = tt
+    go (Ok b) o = written (slot_at rack a.slot) a.call b (let_in (slot_at rack a.slot) a.slot a b o).1 a.replies a.slot 0
 
 -- ---- answer 11
 
 abbrev Eleven : ChannelSettings → Type 0
-Eleven s = ALevel s ⊎ (dac7571_code (neg s.bias_voltage) ≡ C.Range)
+Eleven s = ALevel s ⊎ (dac7571_code (neg s.bias_voltage) ≡ None)
 
 eleven_by : (c : RfChannel) (s : ChannelSettings) (g : Givens) (rs : List ℕ) (n : ℕ) (o : Outcome) → (requested c (Settings s) g rs n 0).ans ≡ o → number_of (verdict_of o) ≡ 11 → Eleven s
 eleven_by c s g rs n (O.Live c' (A.Done report)) e h = absurd (omega (arith, h))
@@ -95,9 +93,9 @@ eleven : (rack : Rack) (a : Asked) (s : ChannelSettings) (g : Givens) → a.call
 unfolding called stepped
 eleven rack a s g f = go (entry (slot_at rack a.slot) a.slot a) refl
   where
-    go : (e : Entry) → entry (slot_at rack a.slot) a.slot a ≡ e → number_of (through e a.slot (slot_at rack a.slot) a.replies a.numbers).verdict ≡ 11 → Eleven s
-    go (Shut refusal) o h = not_eleven refusal h
-    go (Open b) o h = settings_in (slot_at rack a.slot) a.call b (let_in (slot_at rack a.slot) a.slot a b o).1 s g f a.replies a.slot h
+    go : (e : Result Admitted Refusal) → entry (slot_at rack a.slot) a.slot a ≡ e → number_of (through e a.slot (slot_at rack a.slot) a.replies a.numbers).verdict ≡ 11 → Eleven s
+    go (Err refusal) o h = not_eleven refusal h
+    go (Ok b) o h = settings_in (slot_at rack a.slot) a.call b (let_in (slot_at rack a.slot) a.slot a b o).1 s g f a.replies a.slot h
 
 -- ---- cause 4
 
@@ -124,9 +122,9 @@ four : (rack : Rack) (a : Asked) (s : ChannelSettings) (present : Bool) → a.ca
 unfolding called stepped
 four rack a s present f = go (entry (slot_at rack a.slot) a.slot a) refl
   where
-    go : (e : Entry) → entry (slot_at rack a.slot) a.slot a ≡ e → cause_beside (through e a.slot (slot_at rack a.slot) a.replies a.numbers).verdict ≡ 4 → ALevel s
-    go (Shut refusal) o h = absurd (omega (arith, h))
-    go (Open b) o h = start_in (slot_at rack a.slot) a.call b (let_in (slot_at rack a.slot) a.slot a b o).1 s present f a.replies a.slot h
+    go : (e : Result Admitted Refusal) → entry (slot_at rack a.slot) a.slot a ≡ e → cause_beside (through e a.slot (slot_at rack a.slot) a.replies a.numbers).verdict ≡ 4 → ALevel s
+    go (Err refusal) o h = absurd (omega (arith, h))
+    go (Ok b) o h = start_in (slot_at rack a.slot) a.call b (let_in (slot_at rack a.slot) a.slot a b o).1 s present f a.replies a.slot h
 
 -- ---- all three
 

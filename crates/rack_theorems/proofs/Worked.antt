@@ -1,5 +1,4 @@
 -- The worked history, by computing it. Assumes nothing.
-use Prim.Native.Nat.{ℕ}
 use native.Mathlib.Omega.{arith}
 use mathlib.Core.Path.{refl}
 use lib.Ieee.{round, neg, of_bits, le, lt, add, mul, div, sub, to_unsigned, of_int, ne}

@@ -1,12 +1,10 @@
 -- The first demand: what each answer leaves, over any list of calls, whatever rack they find, whatever log, replies and numbers come with them. Definitions only.
-use Rattle.std.specs.Prelude.{ℕ, ◌*◌, ◌≤◌, ◌<◌, ◌≡◌, false, ◌⊎◌, List, [], ◌∷◌, ◌++◌, length, get_or, Float}
-use Rattle.bus.specs.declared.Got.TheVariants.{Failed}
+use Rattle.std.specs.Prelude.{ℕ, ◌*◌, ◌≤◌, ◌<◌, ◌≡◌, false, ◌⊎◌, List, [], ◌∷◌, ◌++◌, length, get_or, Err}
 use Rattle.bus.specs.declared.Note.TheVariants.{SignalOn, EnablePower}
 use Rattle.bus.specs.declared.Transfer.TheVariants.{Write3}
 use Rattle.bus.specs.Rows.{Row, noted, moved}
 use Rattle.rf_channel.specs.declared.ChannelSettings.{ChannelSettings}
 use Rattle.rf_channel.specs.declared.RfChannel.{RfChannel}
-use Rattle.rf_call.specs.declared.Answer.{Answer}
 use Rattle.rf_call.specs.declared.Answer.TheVariants as A
 use Rattle.rf_call.specs.declared.Givens.{Givens}
 use Rattle.rf_call.specs.declared.Slot.{Slot}
@@ -23,6 +21,7 @@ use Rattle.slots.specs.declared.Verdict.TheVariants.{Refused, Answered, Absent, 
 use Rattle.slots.specs.Slots.{slot_at, number_of}
 use Rattle.rack_call.specs.Calls.{Left}
 use Rattle.rack_theorems.specs.History.{Asked, on, log_after, used_after, Eight}
+use Rattle.bus.specs.Rows.{no_answer}
 
 -- ---- what an answer leaves
 
@@ -56,7 +55,7 @@ pub record LastFailed (n : ℕ) (rows : List Row) : Type 0 where
   pub first : ℕ
   pub second : ℕ
   pub third : ℕ
-  pub ends : rows ≡ earlier ++ (moved n (Write3 0x0E first second third) Failed ∷ [])
+  pub ends : rows ≡ earlier ++ (moved n (Write3 0x0E first second third) (Err no_answer) ∷ [])
 
 -- the last two rows set both output pins low
 pub record EndsLow (n : ℕ) (rows : List Row) : Type 0 where

@@ -1,6 +1,5 @@
 -- A history in the second demand's domain: the first three lines of document 01's whole case, a start, the start of the day, and an update at tick 201. Definitions only.
-use Rattle.std.specs.Prelude.{ℕ, ◌≡◌, true, false, List, [], ◌∷◌, replicate}
-use Rattle.std.proofs.Math.Option.{Option, none, some}
+use Rattle.std.specs.Prelude.{ℕ, ◌≡◌, true, false, List, [], ◌∷◌, replicate, Option, None, Some}
 use Rattle.std.specs.Float.{binary32}
 use Rattle.std.specs.Float.Ieee.{of_bits}
 use Rattle.linear_transformation.specs.Line.{line}
@@ -11,7 +10,6 @@ use Rattle.rf_channel.specs.declared.States.TheVariants.{Powered}
 use Rattle.rf_call.specs.declared.Givens.{Givens}
 use Rattle.rf_call.specs.declared.Slot.{Slot}
 use Rattle.rf_call.specs.declared.Slot.TheVariants as S
-use Rattle.rf_call.specs.declared.Temperature.TheVariants.{Celsius}
 use Rattle.rf_calls.specs.declared.Request.TheVariants.{Startup, Update}
 use Rattle.entry.specs.declared.Call.{Call}
 use Rattle.entry.specs.declared.Call.TheVariants.{Start, Ask}
@@ -35,7 +33,7 @@ settings =
 
 -- 25 degrees, no alert, no overdrive, no watchdog
 abbrev pub givens_at : ℕ → Givens
-givens_at tick = record { tick = tick; alert = true; output_overdrive = false; reflected_overdrive = false; watchdog = false; temperature = Celsius (of_bits binary32 0x41C80000) }
+givens_at tick = record { tick = tick; alert = true; output_overdrive = false; reflected_overdrive = false; watchdog = false; temperature = Some (of_bits binary32 0x41C80000) }
 
 -- on slot 0, with 20 rows of a log and with replies that are all zeros
 abbrev pub on_slot0 : Call → Asked
@@ -53,13 +51,13 @@ answers past (a ∷ more) = number_of (on past.rack a).verdict ∷ answers (next
 
 -- the state of the channel that stands there
 abbrev pub state_of : Slot → Option States
-state_of S.Empty = none
-state_of (S.Halted cause) = none
-state_of (S.Channel c) = some c.state
+state_of S.Empty = None
+state_of (S.Halted cause) = None
+state_of (S.Channel c) = Some c.state
 
 -- none of them is refused, they are in the domain, and they lead to Powered
 pub record Worked : Type 0 where
   pub in_domain : InDomain (history []) 0 worked
   pub tick : last_tick (history []) 0 worked ≡ 201
   pub done : answers (history []) worked ≡ 0 ∷ 0 ∷ 0 ∷ []
-  pub powered : state_of (slot_at (history worked).rack 0) ≡ some Powered
+  pub powered : state_of (slot_at (history worked).rack 0) ≡ Some Powered

@@ -1,75 +1,10 @@
-// Replays a trace of the bay's calls: reads it on standard input, and writes what each line gives. What comes of a
-// read is proved; that one read follows another, and that what comes of each is written, is for the reader's eye.
+// Replays a trace of the bay's calls: reads it on standard input, and writes what each line gives.
 #![tactic(auto)]
 
-use replay_feed::{CHUNK, Replay};
-use std::io::{Read, Stdin};
-
-// The number of the standard output.
-const STDOUT: i32 = 1;
-
-// The number of the standard error.
-const STDERR: i32 = 2;
-
-// Writes the first `past` bytes of the buffer.
-fn send(out: &[u8], past: usize) -> bool {
-    let text = line_hold::front(out, past);
-    let sent = io::write_all(STDOUT, text);
-    if !sent {
-        io::write_all(STDERR, b"The answers cannot be written.\n");
-    }
-    sent
-}
-
-// What a read gives, as a number: how many bytes came, or -1 where it failed.
-fn got(input: &mut Stdin, chunk: &mut [u8]) -> isize {
-    match input.read(chunk) {
-        Ok(n) => n as isize,
-        Err(_) => -1,
-    }
-}
-
-// A proved loop has to end, and nothing says that a trace does: so the reads are counted down, from a number
-// that no run uses up.
-fn turns(
-    input: &mut Stdin,
-    replay: Replay,
-    log: &mut [u8],
-    hold: &mut [u8; 514],
-    chunk: &mut [u8; CHUNK],
-    out: &mut [u8; 98304],
-) {
-    let mut replay = replay;
-    let mut left = u64::MAX;
-    while 0 < left {
-        left -= 1;
-        let came = got(input, chunk);
-        let moved = replay_turn::turn(replay, log, hold, chunk, came, out);
-        if moved.failed {
-            io::write_all(STDERR, b"The trace cannot be read.\n");
-        }
-        let sent = send(out, moved.past);
-        if !sent {
-            return;
-        }
-        if !moved.more {
-            return;
-        }
-        replay = moved.replay;
-    }
-}
+use std::io;
 
 fn main(rt: HostRuntime) {
-    let mut input = rt.stdin();
-    let mut log = [0u8; 65536];
-    let mut hold = [0u8; 514];
-    let mut chunk = [0u8; CHUNK];
-    let mut out = [0u8; 98304];
-    let fed = replay_feed::begin(&mut out);
-    let replay = fed.replay;
-    if send(&out, fed.past) {
-        turns(
-            &mut input, replay, &mut log, &mut hold, &mut chunk, &mut out,
-        );
+    if let Err(broken) = replay_run::run(&mut rt.stdin(), &mut io::writer(&rt)) {
+        let _told = eprintln!(rt; "{broken}");
     }
 }

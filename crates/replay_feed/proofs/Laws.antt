@@ -44,10 +44,16 @@ nothing_held r z = rw (eq-eqb r.held 0 z) (refl, refl)
 
 -- ---- one byte more
 
-pub byte_kept : (r : Reading) (b : ℕ) {hold : List ℕ} {h : ℕ} → h ≡ held_after r.held → hold ≡ kept_in r.hold r.held b
-    → record { place = r.place; hold = hold; held = h } ≡ kept r b
-unfolding kept
-byte_kept r b e f = rw (e, f) refl
+module _ (r : Reading) (b : ℕ) where
+  -- a line feed
+  pub steps_feed : {next : Reading} {o o' : List ℕ} {n p : ℕ} → b ≡ line_feed → next ≡ ended r → Wrote o n o' p (ended_text r) → (next ≡ step r b) × Wrote o n o' p (step_text r b)
+  steps_feed e f w = rw (eq-eqb b line_feed e) (f, w)
+
+  -- any other byte is kept
+  pub steps_kept : {hold : List ℕ} {h : ℕ} (o : List ℕ) (n : ℕ) → (b ≡ line_feed → ⊥) → h ≡ held_after r.held → hold ≡ kept_in r.hold r.held b
+      → (record { place = r.place; hold = hold; held = h } ≡ step r b) × Wrote o n o n (step_text r b)
+  unfolding kept
+  steps_kept o n other e f = rw (ne_eqb b line_feed other, e, f) (refl, wrote_nothing o n)
 
 -- bytes that come one part after another are read as if they came at once
 pub ran_append : (r : Reading) (a b : List ℕ) → ran r (a ++ b) ≡ ran (ran r a) b
@@ -78,10 +84,3 @@ longer chunk i more = rw add-one (take-suc chunk i 0 more)
 module _ (r : Reading) (chunk : List ℕ) (i : ℕ) (more : i < length chunk) {now next : Reading} {o o' o'' : List ℕ} {p q : ℕ} where
   pub fed_step : SoFar r chunk i now o o' p → next ≡ step now (get_or chunk i 0) → Wrote o' p o'' q (step_text now (get_or chunk i 0)) → SoFar r chunk (i + 1) next o o'' q
   fed_step fed e w = rw (longer chunk i more, ran_more r (take i chunk) (get_or chunk i 0), text_more r (take i chunk) (get_or chunk i 0), sym fed.0) (e, wrote_then fed.1 w)
-
-  pub fed_feed : get_or chunk i 0 ≡ line_feed → SoFar r chunk i now o o' p → next ≡ ended now → Wrote o' p o'' q (ended_text now) → SoFar r chunk (i + 1) next o o'' q
-  fed_feed lf fed e w = fed_step fed (rw (eq-eqb (get_or chunk i 0) line_feed lf) e) (rw (eq-eqb (get_or chunk i 0) line_feed lf) w)
-
-pub fed_kept : (r : Reading) (chunk : List ℕ) (i : ℕ) → i < length chunk → {now next : Reading} {o o' : List ℕ} {p : ℕ} → (get_or chunk i 0 ≡ line_feed → ⊥) → SoFar r chunk i now o o' p → next ≡ kept now (get_or chunk i 0) → SoFar r chunk (i + 1) next o o' p
-fed_kept r chunk i more {now} {next} {o} {o'} {p} other fed e =
-    fed_step r chunk i more fed (rw (ne_eqb (get_or chunk i 0) line_feed other) e) (rw (ne_eqb (get_or chunk i 0) line_feed other) (wrote_nothing o' p))

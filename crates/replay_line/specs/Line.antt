@@ -1,11 +1,9 @@
 -- What one line of a trace does, and what is written for it, as document 01 has it. A replay drives slot 0, and a status fills seven numbers that nobody reads. Definitions only.
-use Rattle.std.specs.Prelude.{ℕ, ◌+◌, List, length, replicate}
+use Rattle.std.specs.Prelude.{ℕ, ◌+◌, List, length, replicate, Option, Some, None}
 use Rattle.conversions.specs.Constants.{zero}
 use Rattle.bus.specs.Rows.{written}
 use Rattle.columns.specs.Columns.{column_of}
 use Rattle.reply_field.specs.Replies.{padded_of}
-use Rattle.trace.specs.declared.Parsed.{Parsed}
-use Rattle.trace.specs.declared.Parsed.TheVariants as P
 use Rattle.trace.specs.Trace.{parsed_of}
 use Rattle.entry.specs.declared.Call.{Call}
 use Rattle.entry.specs.Tests.{free_rows}
@@ -42,13 +40,13 @@ abbrev pub replies_of : List ℕ → List ℕ
 replies_of l = padded_of (column_of 7 l)
 
 -- a line that does not fit has no effect
-abbrev pub after_parsed : State → List ℕ → Parsed → State
-after_parsed s replies (P.Call call) = left s (turned s call replies)
-after_parsed s replies P.Bad = s
+abbrev pub after_parsed : State → List ℕ → Option Call → State
+after_parsed s replies (Some call) = left s (turned s call replies)
+after_parsed s replies None = s
 
-abbrev pub parsed_text : State → ℕ → List ℕ → Parsed → List ℕ
-parsed_text s n replies (P.Call call) = said s n (turned s call replies)
-parsed_text s n replies P.Bad = bad_text n
+abbrev pub parsed_text : State → ℕ → List ℕ → Option Call → List ℕ
+parsed_text s n replies (Some call) = said s n (turned s call replies)
+parsed_text s n replies None = bad_text n
 
 unfoldable pub after_line : State → List ℕ → State
 after_line s l = after_parsed s (replies_of l) (parsed_of l)

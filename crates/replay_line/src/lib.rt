@@ -5,19 +5,18 @@
 ghost use Rattle.std.specs.Prelude.{true, ◌≡◌, ◌+◌, ◌≤◌, length};
 ghost use Rattle.reply_field.specs.Replies.{fits_of, padded_of};
 ghost use Rattle.rack_call.specs.Calls.{Leaves};
-ghost use Rattle.text.specs.Texts.{Wrote};
+ghost use Rattle.text.specs.Writers.{Writes};
 ghost use Rattle.replay_line.specs.Line.{turned, after_line, line_text};
 
 use entry::Call;
 use slots::{Rack, Turn};
-use trace::Parsed;
+use text::Writer;
 
-// What a line leaves: the rack, how many rows are used, and the place past what was written.
+// What a line leaves: the rack, and how many rows are used.
 #[derive(Clone, Copy)]
 pub struct Told {
     pub rack: Rack,
     pub used: usize,
-    pub past: usize,
 }
 
 // The call on slot 0. A status has places for its seven numbers, which nobody reads.
@@ -38,24 +37,23 @@ fn replied(rack: Rack, call: Call, log: &mut [u8], used: usize, column: &[u8]) -
     turn(rack, call, log, used, &replies)
 }
 
-// Line number `line`: what it asks is done, and what came of it is written at place `at`. A line that does
-// not fit changes nothing but the output.
+// Line number `line`: what it asks is done, and what came of it is written. A line that does not fit changes
+// nothing but the output.
 pub fn answer(
     rack: Rack,
     used: usize,
     log: &mut [u8],
     line: u64,
     s: &[u8],
-    out: &mut [u8],
-    at: usize,
+    writer: &mut Writer,
 ) -> Told
-    requires { at + 96 ≤ length out.old }
-    ensures { (record { rack = result.rack; used = result.used; log = log.new } ≡ after_line (record { rack = rack; used = used; log = log.old }) s.now) × Wrote out.old at out.new result.past (line_text (record { rack = rack; used = used; log = log.old }) line s.now) × (result.past ≤ at + 96) }
+    requires { writer.old.at + 96 ≤ length writer.old.out.now }
+    ensures lent { writer.new.out.ghost_name ≡ writer.old.out.ghost_name }
+    ensures line { (record { rack = result.rack; used = result.used; log = log.new } ≡ after_line (record { rack = rack; used = used; log = log.old }) s.now) × Writes writer.old writer.new (line_text (record { rack = rack; used = used; log = log.old }) line s.now) × (writer.new.at ≤ writer.old.at + 96) }
 {
-    let parsed = trace::parse(s);
-    let Parsed::Call(call) = parsed else {
-        let past = sheet::put_bad(out, at, line);
-        return Told { rack, used, past };
+    let Some(call) = trace::parse(s) else {
+        sheet::put_bad(writer, line);
+        return Told { rack, used };
     };
     let column = columns::part(s, 7);
     let turn = replied(rack, call, log, used, column);
@@ -63,10 +61,9 @@ pub fn answer(
     let verdict = turn.verdict;
     let number = slots::number(verdict);
     let standing = slots::slot_at(next, 0);
-    let past = sheet::put_answer(out, at, line, number, standing, turn.used);
+    sheet::put_answer(writer, line, number, standing, turn.used);
     Told {
         rack: next,
         used: turn.used,
-        past,
     }
 }

@@ -10,6 +10,7 @@ use lib.Dec.{eqb, leb}
 use lib.ListN.{length, take, set, length-set, length-append}
 use lib.Seq.{take_all, take-append-le, take-suc-set}
 use borrow.Author.Tests.{eq-eqb, ne_eqb, leb-true, leb-false}
+use Rattle.sheet.specs.Lines.{header_text}
 use Rattle.line_hold.specs.Hold.{room, held_after, kept_in, without_cr}
 use Rattle.replay_line.specs.Line.{State, after_line}
 use Rattle.replay_feed.specs.Feed.{line_feed, Place, passed, passed_text, Reading, fresh, reading, bytes_held, kept, ended, ended_text, ran, ran_text, finished_text}
@@ -105,11 +106,16 @@ lines_few l (b ∷ input) = go (eqb b line_feed) (lines_few [] input) (rw length
 
 -- ---- the whole
 
+-- an input that comes at once
+pub at_once : (hold : List ℕ) → length hold ≡ 514 → (input : List ℕ) → length input < 2 ^ 64 → header_text ++ ran_whole (reading fresh log hold) input ≡ whole input
+unfolding whole
+at_once hold size input few =
+    let holds : Holds (reading fresh log hold) [] = record { size = size; count = omega arith; front = refl } in
+    let lines : List (List ℕ) = lines_of input in
+    let small : length lines < 2 ^ 64 = omega (arith, lines_few [] input) in
+    rw (ran_told (reading fresh log hold) [] input holds, told_behind start lines small)
+
 pub any_cut :
     (hold : List ℕ) → length hold ≡ 514 → (chunks : List (List ℕ)) → Short chunks → length (joined chunks) < 2 ^ 64 → chunked hold chunks ≡ whole (joined chunks)
-unfolding chunked whole
-any_cut hold size chunks short few =
-    let holds : Holds (reading fresh log hold) [] = record { size = size; count = omega arith; front = refl } in
-    let lines : List (List ℕ) = lines_of (joined chunks) in
-    let small : length lines < 2 ^ 64 = omega (arith, lines_few [] (joined chunks)) in
-    rw (fed_whole (reading fresh log hold) chunks short, ran_told (reading fresh log hold) [] (joined chunks) holds, told_behind start lines small)
+unfolding chunked
+any_cut hold size chunks short few = rw (fed_whole (reading fresh log hold) chunks short) (at_once hold size (joined chunks) few)

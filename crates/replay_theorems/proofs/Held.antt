@@ -1,4 +1,4 @@
--- The first 514 bytes of a line tell all that the line does and all that is written for it: a line of more is Bad, and so are they. Assumes nothing.
+-- The first 514 bytes of a line tell all that the line does and all that is written for it: a line of more does not fit, and neither do they. Assumes nothing.
 use Prim.Native.Nat.{ℕ, ◌+◌, ◌-◌, ◌≤◌, ◌<◌, min}
 use mathlib.Core.Path.{◌≡◌, refl, sym, ◌∙◌}
 use mathlib.Core.Bool.{Bool, true, false, cond}
@@ -8,7 +8,7 @@ use lib.Dec.{eqb, leb}
 use lib.ListN.{length, take, length-take}
 use lib.Seq.{take_all}
 use borrow.Author.Tests.{lt-leb, leb-true, leb-false}
-use Rattle.trace.specs.declared.Parsed.TheVariants.{Bad}
+use Rattle.std.proofs.Common.{None}
 use Rattle.trace.specs.Trace.{parsed_of}
 use Rattle.sheet.specs.Lines.{bad_text}
 use Rattle.line_hold.specs.Hold.{carriage_return, room, last_of, end_of, without_cr}
@@ -16,15 +16,15 @@ use Rattle.replay_line.specs.Line.{State, after_line, line_text}
 
 -- ---- a line that does not fit
 
-pub bad_no_effect : (s : State) (l : List ℕ) → parsed_of l ≡ Bad → after_line s l ≡ s
+pub bad_no_effect : (s : State) (l : List ℕ) → parsed_of l ≡ None → after_line s l ≡ s
 unfolding after_line
 bad_no_effect s l e = rw e
 
-pub bad_text_lem : (s : State) (n : ℕ) (l : List ℕ) → parsed_of l ≡ Bad → line_text s n l ≡ bad_text n
+pub bad_text_lem : (s : State) (n : ℕ) (l : List ℕ) → parsed_of l ≡ None → line_text s n l ≡ bad_text n
 unfolding line_text
 bad_text_lem s n l e = rw e
 
-pub long_bad : (l : List ℕ) → 512 < length l → parsed_of l ≡ Bad
+pub long_bad : (l : List ℕ) → 512 < length l → parsed_of l ≡ None
 unfolding parsed_of
 long_bad l h = rw (lt-leb (length l) 512 h)
 

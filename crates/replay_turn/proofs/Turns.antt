@@ -1,11 +1,11 @@
 -- What all reads of a trace come to: `any_reads`, `any_failure`. Assumes nothing.
-use Prim.Native.Nat.{ℕ, zero, suc, ◌≤◌, ◌<◌}
+use Prim.Native.Nat.{ℕ, ◌<◌}
 use native.Mathlib.Nat.{le_refl}
 use native.Mathlib.Omega.{arith}
 use mathlib.Core.Path.{◌≡◌, refl, sym, ap, ◌∙◌}
 use mathlib.Core.Bool.{true, false}
 use mathlib.Core.List.{List, [], ◌∷◌, ◌++◌, append-nil, append_assoc}
-use lib.IntN.{pos, negsuc}
+use Rattle.std.proofs.Common.{None, Some}
 use lib.ListN.{length, take, length-append}
 use lib.Seq.{take-length, take-append-le}
 use Rattle.replay_feed.specs.Feed.{Reading, fresh, reading, ran, ran_text}
@@ -18,9 +18,9 @@ use Rattle.replay_turn.specs.Turns.{Read, turns_text, Part, Parted, chunks_of, b
 
 -- a read that brings bytes feeds these
 record Feeds (r : Reading) (bytes behind : List ℕ) : Type 0 where
-  reads : turned r (pos (length bytes)) (bytes ++ behind) ≡ ran r bytes
-  writes : turned_text r (pos (length bytes)) (bytes ++ behind) ≡ ran_text r bytes
-  goes_on : more_after (pos (length bytes)) ≡ true
+  reads : turned r (Some (length bytes)) (bytes ++ behind) ≡ ran r bytes
+  writes : turned_text r (Some (length bytes)) (bytes ++ behind) ≡ ran_text r bytes
+  goes_on : more_after (Some (length bytes)) ≡ true
 
 feeds : (r : Reading) (bytes behind : List ℕ) → 0 < length bytes → Feeds r bytes behind
 unfolding turned turned_text more_after
@@ -49,8 +49,8 @@ pub any_reads : AnyReads
 unfolding chunked turned_text more_after
 any_reads hold size parts h few chunk later =
     let short : Short (chunks_of parts) = parts_short parts h in
-    rw (parts_fed (record { got = pos 0; chunk = chunk }) later refl (reading fresh log hold) parts h, sym (fed_whole (reading fresh log hold) (chunks_of parts) short)) (any_cut hold size (chunks_of parts) short few)
+    rw (parts_fed (record { got = Some 0; chunk = chunk }) later refl (reading fresh log hold) parts h, sym (fed_whole (reading fresh log hold) (chunks_of parts) short)) (any_cut hold size (chunks_of parts) short few)
 
 pub any_failure : AnyFailure
 unfolding turned_text more_after
-any_failure hold parts h k chunk later = rw (parts_fed (record { got = negsuc k; chunk = chunk }) later refl (reading fresh log hold) parts h, append-nil)
+any_failure hold parts h chunk later = rw (parts_fed (record { got = None; chunk = chunk }) later refl (reading fresh log hold) parts h, append-nil)

@@ -1,5 +1,5 @@
 -- What all reads of a trace come to: document 01's replay program, however `read` hands out the trace. Definitions only; proofs/Turns has the proofs of the two statements.
-use Rattle.std.specs.Prelude.{ℕ, ◌<◌, ◌^◌, cond, ◌≡◌, List, [], ◌∷◌, ◌++◌, ℤ, pos, negsuc, length}
+use Rattle.std.specs.Prelude.{ℕ, ◌<◌, ◌^◌, cond, ◌≡◌, List, [], ◌∷◌, ◌++◌, Option, None, Some, length}
 use Rattle.sheet.specs.Lines.{header_text}
 use Rattle.replay_feed.specs.Feed.{Reading, fresh, reading, ran_text}
 use Rattle.replay_theorems.specs.Whole.{log, whole, joined}
@@ -9,7 +9,7 @@ use Rattle.replay_turn.specs.Turn.{turned, turned_text, more_after}
 
 -- one read: what it answered, and the chunk afterwards
 pub record Read : Type 0 where
-  pub got : ℤ
+  pub got : Option ℕ
   pub chunk : List ℕ
 
 -- what is written turn by turn. Behind a turn that is the last, whatever reads may follow count for nothing
@@ -44,16 +44,16 @@ bytes_of parts = joined (chunks_of parts)
 -- its reads, one that brings nothing, and any others
 abbrev pub reads_of : List Part → Read → List Read → List Read
 reads_of [] last later = last ∷ later
-reads_of (p ∷ parts) last later = record { got = pos (length p.bytes); chunk = p.bytes ++ p.behind } ∷ reads_of parts last later
+reads_of (p ∷ parts) last later = record { got = Some (length p.bytes); chunk = p.bytes ++ p.behind } ∷ reads_of parts last later
 
 -- ---- the statements
 
 -- however a trace is handed out, what is written up to the read that finds its end is what document 01 has for the whole trace
 abbrev pub AnyReads : Type 0
 AnyReads = (hold : List ℕ) → length hold ≡ 514 → (parts : List Part) → Parted parts → length (bytes_of parts) < 2 ^ 64
-    → (chunk : List ℕ) (later : List Read) → printed hold (reads_of parts (record { got = pos 0; chunk = chunk }) later) ≡ whole (bytes_of parts)
+    → (chunk : List ℕ) (later : List Read) → printed hold (reads_of parts (record { got = Some 0; chunk = chunk }) later) ≡ whole (bytes_of parts)
 
 -- a read that fails adds nothing to what was written for the bytes before it: a line that has not ended gets no answer
 abbrev pub AnyFailure : Type 0
 AnyFailure = (hold : List ℕ) (parts : List Part) → Parted parts
-    → (k : ℕ) (chunk : List ℕ) (later : List Read) → printed hold (reads_of parts (record { got = negsuc k; chunk = chunk }) later) ≡ header_text ++ ran_text (reading fresh log hold) (bytes_of parts)
+    → (chunk : List ℕ) (later : List Read) → printed hold (reads_of parts (record { got = None; chunk = chunk }) later) ≡ header_text ++ ran_text (reading fresh log hold) (bytes_of parts)

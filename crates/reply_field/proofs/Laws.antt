@@ -1,16 +1,10 @@
 -- Laws of the replies: a digit's range, a column digit by digit, and its bytes by their place. Assumes nothing.
-use mathlib.Core.Path.{◌≡◌, refl, sym, ap, ◌∙◌}
-use mathlib.Core.Bool.{Bool, true, false, ◌&&◌, ◌||◌, true≢false}
-use mathlib.Core.List.{List, [], ◌∷◌, ◌++◌}
-use Prim.Native.Nat.{ℕ, zero, suc, ◌+◌, ◌-◌, ◌*◌, ◌%◌, ◌≤◌, ◌<◌}
-use native.Mathlib.Numerals.{add-one}
-use native.Mathlib.Omega.{arith}
-use lib.Dec.{leb, eqb}
-use lib.ListN.{length, get_or, set, drop, replicate, drop_of_length-le, length-append, length-replicate, get_or-eq_default}
-use lib.Seq.{drop-cons, ext_get_or, get_or-set_same, get_or-set_other}
-use borrow.Author.Count.{below_more}
-use borrow.Author.Tests.{leb-true, leb-false, eqb-true, le-leb, lt-leb}
-use Rattle.field.specs.Field.{is_digit, is_hex, hex_of}
+use Rattle.std.proofs.Common.{◌≡◌, ◌≤◌, ◌<◌, refl, sym, ap, ◌∙◌, Bool, true, false, ◌&&◌, cond, List, [], ◌∷◌, ◌++◌, ℕ, zero, suc, ◌+◌, ◌-◌, ◌*◌, ◌%◌, arith, leb, eqb, length, get_or, set, replicate, length-append, Some, None, is_some, below_more, get_or-set_same, get_or-set_other}
+use lib.ListN.{length-replicate, get_or-eq_default}
+use lib.Seq.{ext_get_or}
+use borrow.Author.Tests.{leb-true, leb-false, eqb-true}
+use Rattle.std.specs.List.{list_all}
+use Rattle.field.specs.Field.{is_hex, hex_of, digit_of}
 use Rattle.reply_field.specs.Replies.{pairs_of, all_hex, fits_of, padded_of}
 
 -- ---- two tests that both hold
@@ -21,47 +15,22 @@ left false y h = h
 
 right : (x y : Bool) → x && y ≡ true → y ≡ true
 right true y h = h
-right false y h = absurd (true≢false (sym h))
+right false y h = cc
 
--- ---- a digit
+-- ---- digits
 
--- from 0 to F
-pub record Within (b : ℕ) : Type 0 where
-  pub least : 48 ≤ b
-  pub most : b ≤ 70
-
-pub hex_within : (b : ℕ) → is_hex b ≡ true → Within b
-hex_within b = go (is_digit b) (leb 65 b && leb b 70)
-    (λ h. record { least = leb-true 48 b (left (leb 48 b) (leb b 57) h); most = omega (arith, leb-true b 57 (right (leb 48 b) (leb b 57) h)) })
-    (λ h. record { least = omega (arith, leb-true 65 b (left (leb 65 b) (leb b 70) h)); most = leb-true b 70 (right (leb 65 b) (leb b 70) h) })
+-- a byte is a digit where the digit that it counts is there
+pub hex_is : (b : ℕ) → is_some (digit_of b) ≡ is_hex b
+hex_is b = go (is_hex b)
   where
-    go : (d l : Bool) → (d ≡ true → Within b) → (l ≡ true → Within b) → d || l ≡ true → Within b
-    go true l f g h = f refl
-    go false l f g h = g h
+    go : (t : Bool) → is_some (cond t (Some (hex_of b)) None) ≡ t
+    go true = refl
+    go false = refl
 
-pub counts_digit : (b : ℕ) → 48 ≤ b → b ≤ 57 → b - 48 ≡ hex_of b
-counts_digit b l m = rw (le-leb 48 b l, le-leb b 57 m)
-
-pub counts_letter : (b : ℕ) → 48 ≤ b → 57 < b → b - 55 ≡ hex_of b
-counts_letter b l m = rw (le-leb 48 b l, lt-leb b 57 m)
-
--- ---- digit by digit
-
-module _ (s : List ℕ) (i : ℕ) (h : i < length s) where
-  from : drop i s ≡ get_or s i 0 ∷ drop (i + 1) s
-  from = rw (add-one, drop-cons s i 0)
-
-  pub hex_goes : is_hex (get_or s i 0) ≡ true → all_hex (drop (i + 1) s) ≡ all_hex (drop i s)
-  unfolding all_hex
-  hex_goes e = sym (ap all_hex from ∙ ap (λ (t : Bool). t && all_hex (drop (i + 1) s)) e)
-
-  pub hex_stops : is_hex (get_or s i 0) ≡ false → all_hex (drop i s) ≡ false
-  unfolding all_hex
-  hex_stops e = ap all_hex from ∙ ap (λ (t : Bool). t && all_hex (drop (i + 1) s)) e
-
-pub hex_end : (s : List ℕ) (i : ℕ) → length s ≤ i → all_hex (drop i s) ≡ true
+pub all_is : (l : List ℕ) → list_all is_hex l ≡ all_hex l
 unfolding all_hex
-hex_end s i h = rw (drop_of_length-le s h)
+all_is [] = refl
+all_is (b ∷ l) = ap (λ (t : Bool). is_hex b && t) (all_is l)
 
 pub hex_at : (l : List ℕ) → all_hex l ≡ true → (k : ℕ) → k < length l → is_hex (get_or l k 0) ≡ true
 unfolding all_hex

@@ -1,18 +1,21 @@
--- Laws of calls: room for a halt, and what follows an event, work on the hardware, or a note, with or without a halt. Assumes nothing.
-use mathlib.Core.List.{List}
-use Prim.Native.Nat.{ℕ, ◌+◌, ◌*◌, ◌≤◌, ◌<◌}
-use native.Mathlib.Omega.{arith}
-use lib.ListN.{length}
-use Rattle.bus.specs.declared.Cursor.{Cursor}
-use Rattle.bus.specs.declared.Note.{Note}
-use Rattle.bus.specs.Run.{note, Does, Room}
-use Rattle.bus.proofs.Log.{length_written}
+-- Laws of calls: what follows an event, an answer or the halt. Assumes nothing.
+use Rattle.std.specs.Prelude.{Result, Ok, Err}
+use mathlib.Core.Path.{◌≡◌}
+use Prim.Native.Nat.{ℕ, ◌+◌}
+use Rattle.bus.specs.declared.Bus.{Bus}
+use Rattle.bus.specs.Run.{Run, bind, Runs}
+use Rattle.bus.proofs.Runs.{runs_then}
+use Rattle.rf_channel.specs.declared.RfChannel.{RfChannel}
+use Rattle.rf_machine.specs.declared.Cause.{Cause}
+use Rattle.rf_machine.specs.declared.Told.{Told}
+use Rattle.rf_call.specs.declared.Outcome.{Outcome}
+use Rattle.rf_call.specs.Calls.{halting, after_event}
 
--- room for a halt
-pub room_halt : {c : Cursor} {l rs : List ℕ} → Room c 2 0 l rs → (c.slot < 8) × (16 * (c.used + 2) ≤ length l)
-room_halt room = (room.slot, room.rows)
+module _ {m : Run (Result (RfChannel × Told) Cause)} {b : Bus} {n t : ℕ} {b' : Bus} {g : Result (RfChannel × Told) Cause} where
+  pub runs_event : (k : RfChannel → Told → Run Outcome) {c : RfChannel} {told : Told} {b'' : Bus} {n' t' : ℕ} {r : Outcome} → Runs m b n t b' g → g ≡ Ok (c, told) → Runs (k c told) b' n' t' b'' r → Runs (bind m (after_event k)) b (n + n') (t + t') b'' r
+  unfolding after_event
+  runs_event k d e f = runs_then (after_event k) d e f
 
--- room for the second of two notes
-pub room_second : (n : Note) {l l' : List ℕ} {c c' : Cursor} {rs : List ℕ} {u : Unit {0}} → Does (note n) rs l c 1 0 l' c' u → (c.slot < 8) × (16 * (c.used + 2) ≤ length l) → (c'.slot < 8) × (16 * (c'.used + 1) ≤ length l')
-unfolding note
-room_second n {l} {l'} {c} {c'} {rs} d h = rw (d.next, d.log) (h.0, omega (arith, h.1, length_written l c.used (note n rs c.slot c.taken).rows))
+  pub runs_halt : (k : RfChannel → Told → Run Outcome) {cause : Cause} {b'' : Bus} {n' t' : ℕ} {r : Outcome} → Runs m b n t b' g → g ≡ Err cause → Runs (halting cause) b' n' t' b'' r → Runs (bind m (after_event k)) b (n + n') (t + t') b'' r
+  unfolding after_event
+  runs_halt k d e f = runs_then (after_event k) d e f

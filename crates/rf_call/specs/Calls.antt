@@ -1,15 +1,11 @@
 -- The halt, and the calls that are one event. Definitions only.
-use Rattle.std.specs.Prelude.{false}
+use Rattle.std.specs.Prelude.{false, Result, Ok, Err}
 use Rattle.bus.specs.declared.Note.TheVariants.{SignalOn, EnablePower}
 use Rattle.bus.specs.Run.{Run, done, bind, note}
 use Rattle.rf_channel.specs.declared.Events.{Events}
 use Rattle.rf_channel.specs.declared.Events.TheVariants.{InterlockReset, Disable}
 use Rattle.rf_channel.specs.declared.RfChannel.{RfChannel}
 use Rattle.rf_machine.specs.declared.Cause.{Cause}
-use Rattle.rf_machine.specs.declared.Effect.{Effect}
-use Rattle.rf_machine.specs.declared.Effect.TheVariants.{Did, Stop}
-use Rattle.rf_machine.specs.declared.Step.{Step}
-use Rattle.rf_machine.specs.declared.Step.TheVariants.{Went, Stopped}
 use Rattle.rf_machine.specs.declared.Told.{Told}
 use Rattle.rf_machine.specs.Event.{process_event}
 use Rattle.rf_call.specs.declared.Answer.{Answer}
@@ -27,14 +23,14 @@ unfoldable pub halting : Cause → Run Outcome
 halting cause = bind (note (SignalOn false)) (λ _. bind (note (EnablePower false)) (λ _. done (Halted cause)))
 
 -- work on the hardware that goes on with k, or halts
-unfoldable pub or_halt : Run Outcome → Effect → Run Outcome
-or_halt k Did = k
-or_halt k (Stop cause) = halting cause
+unfoldable pub or_halt : Run Outcome → Result (Unit {0}) Cause → Run Outcome
+or_halt k (Ok tt) = k
+or_halt k (Err cause) = halting cause
 
 -- an event that goes on with k, or halts
-unfoldable pub after_event : (RfChannel → Told → Run Outcome) → Step → Run Outcome
-after_event k (Went c told) = k c told
-after_event k (Stopped cause) = halting cause
+unfoldable pub after_event : (RfChannel → Told → Run Outcome) → Result (RfChannel × Told) Cause → Run Outcome
+after_event k (Ok (c, told)) = k c told
+after_event k (Err cause) = halting cause
 
 -- ---- the calls
 

@@ -1,24 +1,17 @@
 // A call on a channel: what it is given, how it ends, the halt; and the three calls that are one event.
 #![tactic(auto)]
 
-ghost use Rattle.std.specs.Prelude.{◌≡◌, List, length, ℕ, ◌+◌, ◌*◌, ◌≤◌, ◌<◌};
-ghost use Rattle.bus.specs.Run.{Does, Room};
+ghost use Rattle.std.specs.Prelude.{◌≡◌};
+ghost use Rattle.bus.specs.Run.{Runs, HasRoom, HasRows};
 ghost use Rattle.rf_call.specs.Outcome.{cause_of, slot_of, reset_answer};
 ghost use Rattle.rf_call.specs.Calls.{halting, quietly, interlock_reset, handle_startup, standing};
 
-use bus::{Cursor, Note};
+use bus::{Bus, Note};
 use rf_channel::{Events, RfChannel, States};
-use rf_machine::{Cause, Step, Told};
-
-// The temperature in degrees Celsius, or that its chip did not answer.
-#[derive(Clone, Copy)]
-pub enum Temperature {
-    Celsius(f32),
-    Failed,
-}
+use rf_machine::{Cause, Told};
 
 // What a caller gives to every call: the clock, the levels of the input pins, whether the watchdog has
-// struck, and the temperature.
+// struck, and the temperature in degrees Celsius, which is not there if its chip did not answer.
 #[derive(Clone, Copy)]
 pub struct Givens {
     pub tick: u32,
@@ -26,7 +19,7 @@ pub struct Givens {
     pub output_overdrive: bool,
     pub reflected_overdrive: bool,
     pub watchdog: bool,
-    pub temperature: Temperature,
+    pub temperature: Option<f32>,
 }
 
 // The state for the front panel: its green, yellow and red light.
@@ -72,12 +65,6 @@ pub enum Outcome {
     Halted(Cause),
 }
 
-#[derive(Clone, Copy)]
-pub struct Ended {
-    pub outcome: Outcome,
-    pub next: Cursor,
-}
-
 // What stands in a slot.
 #[derive(Clone, Copy)]
 pub enum Slot {
@@ -111,25 +98,15 @@ pub fn slot_of(outcome: Outcome) -> Slot
     }
 }
 
-// Ends a call with the channel and an answer.
-pub fn live(channel: RfChannel, answer: Answer, at: Cursor) -> Ended
-    ensures { (result.outcome ≡ Outcome.Live channel answer) × (result.next ≡ at) }
-{
-    let outcome = Outcome::Live(channel, answer);
-    Ended { outcome, next: at }
-}
-
 // Halts: both output pins are set low, whatever they were.
-pub fn halt(log: &mut [u8], at: Cursor, cause: Cause) -> Ended
-    requires { (at.slot < 8) × (16 * (at.used + 2) ≤ length log.old) }
-    ensures { (rs : List ℕ) → Does (halting cause) rs log.old at 2 0 log.new result.next result.outcome }
+pub fn halt(bus: &mut Bus, cause: Cause) -> Outcome
+    requires { HasRows bus.old 2 }
+    ensures lent { bus.new.log.ghost_name ≡ bus.old.log.ghost_name }
+    ensures run { Runs (halting cause) bus.old 2 0 bus.new result }
 {
-    let low = Note::SignalOn(false);
-    let next = bus::add_note(log, at, low);
-    let low = Note::EnablePower(false);
-    let next = bus::add_note(log, next, low);
-    let outcome = Outcome::Halted(cause);
-    Ended { outcome, next }
+    bus.note(Note::SignalOn(false));
+    bus.note(Note::EnablePower(false));
+    Outcome::Halted(cause)
 }
 
 // What the reset button answers.
@@ -137,106 +114,53 @@ fn reset_answer(told: Told) -> Answer
     ensures { result ≡ reset_answer told }
 {
     match told {
-        Told::Moved => {
-            let report = Report::Plain;
-            Answer::Done(report)
-        }
+        Told::Moved => Answer::Done(Report::Plain),
         Told::NoTransition => Answer::NoTransition,
         Told::GuardFalse => Answer::GuardFalse,
     }
 }
 
 // The reset button.
-pub fn interlock_reset(
-    log: &mut [u8],
-    replies: &[u8],
-    at: Cursor,
-    channel: RfChannel,
-    givens: Givens,
-) -> Ended
-    requires { Room at 5 1 log.old replies.now }
-    ensures { Does (interlock_reset channel givens) replies.now log.old at 5 1 log.new result.next result.outcome }
+pub fn interlock_reset(bus: &mut Bus, channel: RfChannel, givens: Givens) -> Outcome
+    requires { HasRoom bus.old 5 1 }
+    ensures lent { bus.new.log.ghost_name ≡ bus.old.log.ghost_name }
+    ensures run { Runs (interlock_reset channel givens) bus.old 5 1 bus.new result }
 {
     let event = Events::InterlockReset;
-    let processed = rf_machine::process_event(
-        log,
-        replies,
-        at,
-        channel,
-        event,
-        givens.tick,
-        givens.watchdog,
-    );
-    let step = processed.step;
-    let next = processed.next;
-    match step {
-        Step::Went(channel, told) => {
-            let answer = reset_answer(told);
-            live(channel, answer, next)
-        }
-        Step::Stopped(cause) => halt(log, next, cause),
+    match rf_machine::process_event(bus, channel, event, givens.tick, givens.watchdog) {
+        Ok((channel, told)) => Outcome::Live(channel, reset_answer(told)),
+        Err(cause) => halt(bus, cause),
     }
 }
 
 // An event that is asked for whether or not the table has it.
-pub fn send(
-    log: &mut [u8],
-    replies: &[u8],
-    at: Cursor,
-    channel: RfChannel,
-    event: Events,
-    givens: Givens,
-) -> Ended
-    requires { Room at 5 1 log.old replies.now }
-    ensures { Does (quietly event channel givens) replies.now log.old at 5 1 log.new result.next result.outcome }
+pub fn send(bus: &mut Bus, channel: RfChannel, event: Events, givens: Givens) -> Outcome
+    requires { HasRoom bus.old 5 1 }
+    ensures lent { bus.new.log.ghost_name ≡ bus.old.log.ghost_name }
+    ensures run { Runs (quietly event channel givens) bus.old 5 1 bus.new result }
 {
-    let processed = rf_machine::process_event(
-        log,
-        replies,
-        at,
-        channel,
-        event,
-        givens.tick,
-        givens.watchdog,
-    );
-    let step = processed.step;
-    let next = processed.next;
-    match step {
-        Step::Went(channel, _) => {
-            let report = Report::Plain;
-            let answer = Answer::Done(report);
-            live(channel, answer, next)
-        }
-        Step::Stopped(cause) => halt(log, next, cause),
+    match rf_machine::process_event(bus, channel, event, givens.tick, givens.watchdog) {
+        Ok((channel, _)) => Outcome::Live(channel, Answer::Done(Report::Plain)),
+        Err(cause) => halt(bus, cause),
     }
 }
 
 // The start of the day.
-pub fn handle_startup(
-    log: &mut [u8],
-    replies: &[u8],
-    at: Cursor,
-    channel: RfChannel,
-    givens: Givens,
-) -> Ended
-    requires { Room at 5 1 log.old replies.now }
-    ensures { Does (handle_startup channel givens) replies.now log.old at 5 1 log.new result.next result.outcome }
+#[tactic(auto, unfolding(crate::specs::Calls::handle_startup))]
+pub fn handle_startup(bus: &mut Bus, channel: RfChannel, givens: Givens) -> Outcome
+    requires { HasRoom bus.old 5 1 }
+    ensures lent { bus.new.log.ghost_name ≡ bus.old.log.ghost_name }
+    ensures run { Runs (handle_startup channel givens) bus.old 5 1 bus.new result }
 {
-    let event = Events::InterlockReset;
-    send(log, replies, at, channel, event, givens)
+    send(bus, channel, Events::InterlockReset, givens)
 }
 
 // The standby button.
-pub fn standby(
-    log: &mut [u8],
-    replies: &[u8],
-    at: Cursor,
-    channel: RfChannel,
-    givens: Givens,
-) -> Ended
-    requires { Room at 5 1 log.old replies.now }
-    ensures { Does (standing channel givens) replies.now log.old at 5 1 log.new result.next result.outcome }
+#[tactic(auto, unfolding(crate::specs::Calls::standing))]
+pub fn standby(bus: &mut Bus, channel: RfChannel, givens: Givens) -> Outcome
+    requires { HasRoom bus.old 5 1 }
+    ensures lent { bus.new.log.ghost_name ≡ bus.old.log.ghost_name }
+    ensures run { Runs (standing channel givens) bus.old 5 1 bus.new result }
 {
-    let event = Events::Disable;
-    send(log, replies, at, channel, event, givens)
+    send(bus, channel, Events::Disable, givens)
 }

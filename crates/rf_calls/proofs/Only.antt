@@ -4,11 +4,11 @@ use contract.Lifetimes.{Lfts}
 use denote.Triple.Clauses.{AtExit}
 use borrow.Fn.World.{ArgsD, ResD}
 use borrow.Fn.Kinds.{ended_of}
-use Rattle.bus.proofs.Runs.{does_unique}
+use Rattle.bus.proofs.Runs.{runs_unique}
 use Rattle.rf_calls.specs.contracts.request_at as request_at
 use Rattle.rf_calls.proofs.request_at.Kinds as kinds
 use Rattle.rf_calls.proofs.request_at.Reads as reads
 
 module _ (κs : Lfts 3) (a : ArgsD request_at.signature κs) (r r' : ResD request_at.signature κs) (s s' : AtExit (ended_of 3 kinds.ps kinds.r) κs) where
-  pub only : reads.Post κs a r s → reads.Post κs a r' s' → (s.0.now ≡ s'.0.now) × (s.1.1.0.now ≡ s'.1.1.0.now) × (r ≡ r')
-  only p q = let e = does_unique p.0 q.0 in (e.0, p.1 ∙ sym q.1, λ i. record { outcome = e.2 i; next = e.1 i })
+  pub only : reads.Post κs a r s → reads.Post κs a r' s' → (s.0.now.log.now ≡ s'.0.now.log.now) × (s.0.now.at ≡ s'.0.now.at) × (s.1.0.now ≡ s'.1.0.now) × (r ≡ r')
+  only p q = let e = runs_unique p.1.0 q.1.0 in (e.0, e.1, p.1.1 ∙ sym q.1.1, e.2)

@@ -2,11 +2,11 @@
 #![tactic(auto)]
 
 ghost use Rattle.std.specs.Prelude.{◌≤◌, ◌≡◌, length};
-ghost use Rattle.bus.specs.Run.{Does, Room};
+ghost use Rattle.bus.specs.Run.{Runs, HasRoom};
 ghost use Rattle.rf_calls.specs.Requests.{places, requested, shown_by};
 
-use bus::Cursor;
-use rf_call::{Ended, Givens};
+use bus::Bus;
+use rf_call::{Givens, Outcome};
 use rf_channel::{ChannelSettings, RfChannel};
 use rf_status::Detectors;
 
@@ -21,28 +21,27 @@ pub enum Request {
 }
 
 // Does what is asked. Only a status touches the numbers.
+#[tactic(auto, unfolding(crate::specs::Requests::shown_by))]
 pub fn request_at(
-    log: &mut [u8],
-    replies: &[u8],
+    bus: &mut Bus,
     numbers: &mut [f32],
-    at: Cursor,
     channel: RfChannel,
     request: Request,
     givens: Givens,
-) -> Ended
-    requires { Room at 12 5 log.old replies.now × (places request ≤ length numbers.old) }
-    ensures { Does (requested channel request givens) replies.now log.old at 12 5 log.new result.next result.outcome × (numbers.new ≡ shown_by channel request givens replies.now at.slot at.taken numbers.old) }
+) -> Outcome
+    requires { HasRoom bus.old 12 5 × (places request ≤ length numbers.old) }
+    ensures lent { bus.new.log.ghost_name ≡ bus.old.log.ghost_name }
+    ensures run { Runs (requested channel request givens) bus.old 12 5 bus.new result }
+    ensures shown { numbers.new ≡ shown_by channel request givens bus.old.replies.now bus.old.at.slot bus.old.at.taken numbers.old }
 {
     match request {
-        Request::Startup => rf_call::handle_startup(log, replies, at, channel, givens),
-        Request::Update => rf_update::update(log, replies, at, channel, givens),
-        Request::Reset => rf_call::interlock_reset(log, replies, at, channel, givens),
-        Request::Standby => rf_call::standby(log, replies, at, channel, givens),
-        Request::Settings(settings) => rf_settings::handle_settings(
-            log, replies, at, channel, settings, givens,
-        ),
+        Request::Startup => rf_call::handle_startup(bus, channel, givens),
+        Request::Update => rf_update::update(bus, channel, givens),
+        Request::Reset => rf_call::interlock_reset(bus, channel, givens),
+        Request::Standby => rf_call::standby(bus, channel, givens),
+        Request::Settings(settings) => rf_settings::handle_settings(bus, channel, settings, givens),
         Request::Status(detectors) => rf_status::get_status(
-            log, replies, numbers, at, channel, detectors, givens,
+            bus, numbers, channel, detectors, givens,
         ),
     }
 }

@@ -1,19 +1,18 @@
 -- What has changed in new settings, and the event that they raise. Definitions only.
-use Rattle.std.specs.Prelude.{ℕ, Bool, ◌&&◌, eqb}
+use Rattle.std.specs.Prelude.{ℕ, Bool, ◌&&◌, eqb, Option, None, Some}
 use Rattle.std.specs.Float.Ieee.{eq, ne}
 use Rattle.linear_transformation.specs.declared.LinearTransformation.{LinearTransformation}
 use Rattle.linear_transformation.specs.Line.{map_of}
 use Rattle.rf_channel.specs.declared.ChannelSettings.{ChannelSettings}
 use Rattle.rf_channel.specs.declared.ChannelState.{ChannelState}
 use Rattle.rf_channel.specs.declared.ChannelState.TheVariants as W
+use Rattle.rf_channel.specs.declared.Events.{Events}
 use Rattle.rf_channel.specs.declared.Events.TheVariants.{InterlockReset, Disable, DisableRf}
 use Rattle.rf_channel.specs.declared.RfChannel.{RfChannel}
 use Rattle.rf_channel.specs.declared.States.{States}
 use Rattle.rf_channel.specs.declared.States.TheVariants as S
 use Rattle.rf_devices.specs.Devices.{highest_reflected}
 use Rattle.rf_changes.specs.declared.Changes.{Changes}
-use Rattle.rf_changes.specs.declared.Follow.{Follow}
-use Rattle.rf_changes.specs.declared.Follow.TheVariants.{Nothing, Raise}
 
 -- ---- equality, by f32's ==
 
@@ -52,19 +51,19 @@ stored c s = record { settings = s; state = c.state; signal_on = c.signal_on; en
 
 -- ---- the event: off is always allowed; RF is switched off in Enabled and Tripped; a channel that is off is powered up
 
-abbrev pub event_of : States → ChannelState → Follow
-event_of s W.Off = Raise Disable
-event_of S.Enabled W.Powered = Raise DisableRf
-event_of (S.Tripped i) W.Powered = Raise DisableRf
-event_of S.Off W.Powered = Raise InterlockReset
-event_of (S.Blocked f) W.Powered = Nothing
-event_of (S.Powerup d) W.Powered = Nothing
-event_of S.Powered W.Powered = Nothing
-event_of (S.Powerdown d) W.Powered = Nothing
-event_of S.Off W.Enabled = Raise InterlockReset
-event_of (S.Blocked f) W.Enabled = Nothing
-event_of (S.Powerup d) W.Enabled = Nothing
-event_of S.Powered W.Enabled = Nothing
-event_of S.Enabled W.Enabled = Nothing
-event_of (S.Tripped i) W.Enabled = Nothing
-event_of (S.Powerdown d) W.Enabled = Nothing
+abbrev pub event_of : States → ChannelState → Option Events
+event_of s W.Off = Some Disable
+event_of S.Enabled W.Powered = Some DisableRf
+event_of (S.Tripped i) W.Powered = Some DisableRf
+event_of S.Off W.Powered = Some InterlockReset
+event_of (S.Blocked f) W.Powered = None
+event_of (S.Powerup d) W.Powered = None
+event_of S.Powered W.Powered = None
+event_of (S.Powerdown d) W.Powered = None
+event_of S.Off W.Enabled = Some InterlockReset
+event_of (S.Blocked f) W.Enabled = None
+event_of (S.Powerup d) W.Enabled = None
+event_of S.Powered W.Enabled = None
+event_of S.Enabled W.Enabled = None
+event_of (S.Tripped i) W.Enabled = None
+event_of (S.Powerdown d) W.Enabled = None

@@ -7,28 +7,28 @@ ghost use Rattle.rf_channel.specs.Guards.{late_of, powerup_of, enable_of};
 use linear_transformation::LinearTransformation;
 
 // What the settings ask of a channel.
-#[derive(Clone, Copy)]
+#[derive(Clone, Copy, PartialEq, Eq)]
 pub enum ChannelState {
     Off,
     Powered,
     Enabled,
 }
 
-#[derive(Clone, Copy)]
+#[derive(Clone, Copy, PartialEq, Eq)]
 pub enum ChannelFault {
     OverTemperature,
     UnderTemperature,
     SupplyAlert,
 }
 
-#[derive(Clone, Copy)]
+#[derive(Clone, Copy, PartialEq, Eq)]
 pub enum Interlock {
     Input,
     Output,
     Reflected,
 }
 
-#[derive(Clone, Copy)]
+#[derive(Clone, Copy, PartialEq)]
 pub struct ChannelSettings {
     pub output_interlock_threshold: f32,
     pub bias_voltage: f32,
@@ -39,7 +39,7 @@ pub struct ChannelSettings {
 }
 
 // A deadline is a tick.
-#[derive(Clone, Copy)]
+#[derive(Clone, Copy, PartialEq, Eq)]
 pub enum States {
     Blocked(ChannelFault),
     Off,
@@ -50,7 +50,7 @@ pub enum States {
     Powerdown(u32),
 }
 
-#[derive(Clone, Copy)]
+#[derive(Clone, Copy, PartialEq, Eq)]
 pub enum Events {
     InterlockReset,
     Update,
@@ -60,7 +60,7 @@ pub enum Events {
     Fault(ChannelFault),
 }
 
-#[derive(Clone, Copy)]
+#[derive(Clone, Copy, PartialEq)]
 pub struct RfChannel {
     pub settings: ChannelSettings,
     pub state: States,
@@ -69,7 +69,7 @@ pub struct RfChannel {
 }
 
 // What is done to the hardware on the way from one state to the next.
-#[derive(Clone, Copy)]
+#[derive(Clone, Copy, PartialEq, Eq)]
 pub enum Action {
     Nothing,
     StartPowerup,
@@ -82,7 +82,8 @@ pub enum Action {
 }
 
 // What an event does: it is not listed for the state, its guard is false, or this action and this next state.
-#[derive(Clone, Copy)]
+// No Result: the first two are answers of the table, which a caller is told as such, and no failures.
+#[derive(Clone, Copy, PartialEq, Eq)]
 pub enum Plan {
     NoTransition,
     GuardFalse,
@@ -93,23 +94,14 @@ pub enum Plan {
 pub fn late(tick: u32, deadline: u32) -> bool
     ensures { result ≡ late_of tick deadline }
 {
-    let past = std::num::wrapping_sub_u32(tick, deadline);
-    if past == 0 {
-        return false;
-    }
-    past <= 2147483647
+    matches!(tick.wrapping_sub(deadline), 1..=2147483647)
 }
 
 // The settings ask for more than Off.
 pub fn guard_powerup(settings: ChannelSettings) -> bool
     ensures { result ≡ powerup_of settings }
 {
-    let wanted = settings.state;
-    match wanted {
-        ChannelState::Off => false,
-        ChannelState::Powered => true,
-        ChannelState::Enabled => true,
-    }
+    settings.state != ChannelState::Off
 }
 
 // The output may be switched on. A threshold that is a NaN passes.
@@ -117,18 +109,9 @@ pub fn guard_enable(channel: RfChannel, watchdog: bool) -> bool
     ensures { result ≡ enable_of channel watchdog }
 {
     let settings = channel.settings;
-    if watchdog {
-        return false;
-    }
-    let transform = settings.output_power_transform;
-    let lowest = transform.map(0.1);
-    if settings.output_interlock_threshold < lowest {
-        return false;
-    }
-    let wanted = settings.state;
-    match wanted {
-        ChannelState::Off => false,
-        ChannelState::Powered => false,
-        ChannelState::Enabled => channel.enable_power,
-    }
+    let lowest = settings.output_power_transform.map(0.1);
+    !watchdog
+        && !(settings.output_interlock_threshold < lowest)
+        && settings.state == ChannelState::Enabled
+        && channel.enable_power
 }

@@ -2,105 +2,72 @@
 #![tactic(auto)]
 
 ghost use Rattle.std.specs.Prelude.{◌≡◌};
-ghost use Rattle.bus.specs.Run.{Does, Room};
+ghost use Rattle.bus.specs.Run.{Runs, HasRoom};
 ghost use Rattle.interlock.specs.Level.{level_code};
 ghost use Rattle.ad5627.specs.Voltage.{send_code};
 ghost use Rattle.rf_devices.specs.Devices.{get_input_power, apply_output, set_reflected};
 
-use ad5627::{Dac, Output, Programmed};
-use bus::Cursor;
-use conversions::Conversion;
+use ad5627::Dac;
+use bus::{Bus, Error, Failed};
 use linear_transformation::LinearTransformation;
-use mcp3221::Reading;
 use rf_channel::ChannelSettings;
 
 // The level of the reflected power's interlock, in dBm. It protects the hardware and is no setting.
 pub const MAXIMUM_REFLECTED_POWER_DBM: f32 = 30.0;
 
-// The input power in dBm, or a bus failure.
-#[derive(Clone, Copy)]
-pub enum Power {
-    Dbm(f32),
-    Bus,
-}
-
-#[derive(Clone, Copy)]
-pub struct Sensed {
-    pub power: Power,
-    pub next: Cursor,
-}
-
-// Measures the input power.
-pub fn get_input_power(
-    log: &mut [u8],
-    replies: &[u8],
-    at: Cursor,
-    settings: ChannelSettings,
-) -> Sensed
-    requires { Room at 1 1 log.old replies.now }
-    ensures { Does (get_input_power settings) replies.now log.old at 1 1 log.new result.next result.power }
+// Measures the input power, in dBm.
+pub fn get_input_power(bus: &mut Bus, settings: ChannelSettings) -> Result<f32, Failed>
+    requires { HasRoom bus.old 1 1 }
+    ensures lent { bus.new.log.ghost_name ≡ bus.old.log.ghost_name }
+    ensures run { Runs (get_input_power settings) bus.old 1 1 bus.new result }
 {
-    let measured = mcp3221::get_voltage_at(log, replies, at, 3.3);
-    let reading = measured.reading;
-    let next = measured.next;
-    let Reading::Volts(voltage) = reading else {
-        let power = Power::Bus;
-        return Sensed { power, next };
-    };
+    let voltage = mcp3221::get_voltage_at(bus, 3.3)?;
     let transform = settings.input_power_transform;
-    let dbm = transform.map(voltage);
-    let power = Power::Dbm(dbm);
-    Sensed { power, next }
+    Ok(transform.map(voltage))
 }
 
 // Sends a trip level to an output of the interlock chip. The chip compares a detector's volts with it.
 fn send_level(
-    log: &mut [u8],
-    replies: &[u8],
-    at: Cursor,
+    bus: &mut Bus,
     transform: LinearTransformation,
     level: f32,
     dac: Dac,
-) -> Programmed
-    requires { Room at 1 1 log.old replies.now }
-    ensures { Does (send_code dac (level_code transform level)) replies.now log.old at 1 1 log.new result.next result.output }
+) -> Result<f32, Error>
+    requires { HasRoom bus.old 1 1 }
+    ensures lent { bus.new.log.ghost_name ≡ bus.old.log.ghost_name }
+    ensures run { Runs (send_code dac (level_code transform level)) bus.old 1 1 bus.new result }
 {
-    let conversion = interlock::level_code(transform, level);
-    let Conversion::Code(code) = conversion else {
-        let output = Output::Range;
-        return Programmed { output, next: at };
+    let Some(code) = interlock::level_code(transform, level) else {
+        return Err(Error::Range);
     };
-    ad5627::set_code_at(log, replies, at, code, dac)
+    ad5627::set_code_at(bus, code, dac)
 }
 
 // Sends the output power's trip level to the interlock chip.
+#[tactic(auto, unfolding(crate::specs::Devices::apply_output))]
 pub fn apply_output_interlock_threshold(
-    log: &mut [u8],
-    replies: &[u8],
-    at: Cursor,
+    bus: &mut Bus,
     settings: ChannelSettings,
-) -> Programmed
-    requires { Room at 1 1 log.old replies.now }
-    ensures { Does (apply_output settings) replies.now log.old at 1 1 log.new result.next result.output }
+) -> Result<f32, Error>
+    requires { HasRoom bus.old 1 1 }
+    ensures lent { bus.new.log.ghost_name ≡ bus.old.log.ghost_name }
+    ensures run { Runs (apply_output settings) bus.old 1 1 bus.new result }
 {
     let transform = settings.output_power_transform;
     let level = settings.output_interlock_threshold;
-    let dac = Dac::B;
-    send_level(log, replies, at, transform, level, dac)
+    send_level(bus, transform, level, Dac::B)
 }
 
 // Sends a trip level of the reflected power to the interlock chip.
+#[tactic(auto, unfolding(crate::specs::Devices::set_reflected))]
 pub fn set_reflected_interlock_threshold(
-    log: &mut [u8],
-    replies: &[u8],
-    at: Cursor,
+    bus: &mut Bus,
     settings: ChannelSettings,
     power: f32,
-) -> Programmed
-    requires { Room at 1 1 log.old replies.now }
-    ensures { Does (set_reflected settings power) replies.now log.old at 1 1 log.new result.next result.output }
+) -> Result<f32, Error>
+    requires { HasRoom bus.old 1 1 }
+    ensures lent { bus.new.log.ghost_name ≡ bus.old.log.ghost_name }
+    ensures run { Runs (set_reflected settings power) bus.old 1 1 bus.new result }
 {
-    let transform = settings.reflected_power_transform;
-    let dac = Dac::A;
-    send_level(log, replies, at, transform, power, dac)
+    send_level(bus, settings.reflected_power_transform, power, Dac::A)
 }

@@ -1,13 +1,14 @@
 -- A judgement on runs: in slot n, the rows and the answer that the run m ends with satisfy P, whatever the replies are. Rules for the pieces of a run. Assumes nothing.
+use Rattle.std.specs.Prelude.{Result, Ok, Err}
 use Prim.Native.Nat.{ℕ}
 use mathlib.Core.Bool.{Bool, true, false, cond}
 use mathlib.Core.List.{List, [], ◌∷◌, ◌++◌, append-nil}
 use Rattle.bus.specs.declared.Eight.{Eight}
-use Rattle.bus.specs.declared.Got.{Got}
-use Rattle.bus.specs.declared.Got.TheVariants.{Acked, Failed}
 use Rattle.bus.specs.declared.Transfer.{Transfer}
 use Rattle.bus.specs.Rows.{Row, moved}
 use Rattle.bus.specs.Run.{Ran, Run, done, bind, mapped, transfer, on_got, try}
+use Rattle.bus.specs.declared.Failed.{Failed}
+use Rattle.bus.specs.Rows.{no_answer}
 
 pub record Given {A : Type 0} (n : ℕ) (P : List Row → A → Type 0) (x : Ran A) : Type 0 where
   pub holds : P x.rows x.ans
@@ -37,11 +38,11 @@ module _ {A B : Type 0} {n : ℕ} {P : List Row → A → Type 0} {Q : List Row 
   gives_mapped f m g h = gives_bind m (λ a. done (f a)) g (λ rows a p. gives_done (f a) (rw (append-nil rows) (h rows a p)))
 
 -- a transfer that ends the run if it fails
-module _ {A : Type 0} {n : ℕ} (P : List Row → A → Type 0) (t : Transfer) (a : A) (k : Eight → Run A) (failed : P (moved n t Failed ∷ []) a) (acked : (d : Eight) → Gives n (k d) (λ rows b. P (moved n t (Acked d) ∷ rows) b)) where
-  got : (g : Got) → Gives n (on_got a k g) (λ rows b. P (moved n t g ∷ rows) b)
+module _ {A : Type 0} {n : ℕ} (P : List Row → A → Type 0) (t : Transfer) (a : A) (k : Eight → Run A) (failed : P (moved n t (Err no_answer) ∷ []) a) (acked : (d : Eight) → Gives n (k d) (λ rows b. P (moved n t (Ok d) ∷ rows) b)) where
+  got : (g : Result Eight Failed) → Gives n (on_got a k g) (λ rows b. P (moved n t g ∷ rows) b)
   unfolding on_got
-  got (Acked d) = acked d
-  got Failed = gives_done a failed
+  got (Ok d) = acked d
+  got (Err e) = gives_done a failed
 
   pub gives_try : Gives n (try t a k) P
   unfolding bind transfer

@@ -1,5 +1,5 @@
 -- What an event does to a channel: the table's plan, the hardware, and the channel in its next state. Definitions only.
-use Rattle.std.specs.Prelude.{ℕ, Bool, true, false}
+use Rattle.std.specs.Prelude.{ℕ, Bool, true, false, Result, Ok, Err}
 use Rattle.bus.specs.Run.{Run, done, mapped}
 use Rattle.rf_channel.specs.declared.Action.{Action}
 use Rattle.rf_channel.specs.declared.Action.TheVariants.{Nothing, StartPowerup, ResetInterlocks, EnableOutput, StartDisable, HandleFault, HandleTrip, DisableRfSwitch}
@@ -10,12 +10,10 @@ use Rattle.rf_channel.specs.declared.RfChannel.{RfChannel}
 use Rattle.rf_channel.specs.declared.States.{States}
 use Rattle.rf_plan.specs.Table.{table}
 use Rattle.rf_plan.specs.Plan.{planned}
-use Rattle.rf_machine.specs.declared.Effect.{Effect}
-use Rattle.rf_machine.specs.declared.Effect.TheVariants.{Did, Stop}
-use Rattle.rf_machine.specs.declared.Step.{Step}
-use Rattle.rf_machine.specs.declared.Step.TheVariants.{Went, Stopped}
 use Rattle.rf_machine.specs.declared.Told.TheVariants.{Moved, NoTransition as NotListed, GuardFalse as NotAllowed}
 use Rattle.rf_machine.specs.Hardware.{hardware}
+use Rattle.rf_machine.specs.declared.Cause.{Cause}
+use Rattle.rf_machine.specs.declared.Told.{Told}
 
 -- ---- the level at which an action leaves each pin
 
@@ -51,14 +49,14 @@ moved c action state =
       enable_power = power_after action c.enable_power;
     }
 
-abbrev pub arrived : RfChannel → Action → States → Effect → Step
-arrived c action state Did = Went (moved c action state) Moved
-arrived c action state (Stop cause) = Stopped cause
+abbrev pub arrived : RfChannel → Action → States → Result (Unit {0}) Cause → Result (RfChannel × Told) Cause
+arrived c action state (Ok tt) = Ok ((moved c action state), Moved)
+arrived c action state (Err cause) = Err cause
 
-unfoldable pub carry : RfChannel → Plan → Run Step
-carry c NoTransition = done (Went c NotListed)
-carry c GuardFalse = done (Went c NotAllowed)
+unfoldable pub carry : RfChannel → Plan → Run (Result (RfChannel × Told) Cause)
+carry c NoTransition = done (Ok (c, NotListed))
+carry c GuardFalse = done (Ok (c, NotAllowed))
 carry c (Go action state) = mapped (arrived c action state) (hardware action c.settings)
 
-unfoldable pub process_event : RfChannel → Events → ℕ → Bool → Run Step
+unfoldable pub process_event : RfChannel → Events → ℕ → Bool → Run (Result (RfChannel × Told) Cause)
 process_event c e tick watchdog = carry c (planned table c e tick watchdog)

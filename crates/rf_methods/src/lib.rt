@@ -1,4 +1,5 @@
 // What a channel is asked without its bus: the original's six methods that read it, by value.
+// Functions and no methods: an `impl` of the channel can stand only in its own crate.
 #![tactic(auto)]
 
 ghost use Rattle.std.specs.Prelude.{◌≡◌};
@@ -25,8 +26,7 @@ pub fn is_powered(channel: RfChannel) -> bool
 pub fn get_bias_voltage(channel: RfChannel) -> f32
     ensures { result ≡ channel.settings.bias_voltage }
 {
-    let settings = channel.settings;
-    settings.bias_voltage
+    channel.settings.bias_voltage
 }
 
 pub fn settings(channel: RfChannel) -> ChannelSettings
@@ -39,24 +39,19 @@ pub fn settings(channel: RfChannel) -> ChannelSettings
 fn detected_power(transform: LinearTransformation, millivolts: u16) -> f32
     ensures { result ≡ detected transform millivolts }
 {
-    let volts = millivolts as f32 / 1000.0;
-    transform.map(volts)
+    transform.map(millivolts as f32 / 1000.0)
 }
 
 // The reflected power in dBm, from what the processor's converter reads of its detector.
 pub fn get_reflected_power(channel: RfChannel, millivolts: u16) -> f32
     ensures { result ≡ detected channel.settings.reflected_power_transform millivolts }
 {
-    let settings = channel.settings;
-    let transform = settings.reflected_power_transform;
-    detected_power(transform, millivolts)
+    detected_power(channel.settings.reflected_power_transform, millivolts)
 }
 
 // The output power in dBm, likewise.
 pub fn get_output_power(channel: RfChannel, millivolts: u16) -> f32
     ensures { result ≡ detected channel.settings.output_power_transform millivolts }
 {
-    let settings = channel.settings;
-    let transform = settings.output_power_transform;
-    detected_power(transform, millivolts)
+    detected_power(channel.settings.output_power_transform, millivolts)
 }

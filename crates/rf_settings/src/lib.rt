@@ -1,13 +1,13 @@
 // New settings for a channel. What has not changed is not written again.
 #![tactic(auto)]
 
-ghost use Rattle.std.specs.Prelude.{ℕ, ◌+◌, ◌*◌, ◌≤◌, ◌<◌, ◌≡◌, List, length};
-ghost use Rattle.bus.specs.Run.{Does, Room};
+ghost use Rattle.std.specs.Prelude.{◌≡◌};
+ghost use Rattle.bus.specs.Run.{Runs, HasRoom, HasRows};
 ghost use Rattle.rf_settings.specs.Settings.{level_applied, bias_applied, write_output, write_reflected, write_bias, write_changes, apply_settings, following, refusing, handle_settings};
 
-use bus::Cursor;
-use rf_call::{Answer, Ended, Givens, Report};
-use rf_changes::{Changes, Follow};
+use bus::{Bus, Error};
+use rf_call::{Answer, Givens, Outcome, Report};
+use rf_changes::Changes;
 use rf_channel::{ChannelSettings, ChannelState, RfChannel};
 use rf_machine::Cause;
 
@@ -19,273 +19,137 @@ pub enum Wrong {
     Bus,
 }
 
-// A write was done, or what went wrong.
-#[derive(Clone, Copy)]
-pub enum Written {
-    Fine,
-    Failed(Wrong),
-}
-
-#[derive(Clone, Copy)]
-pub struct Wrote {
-    pub written: Written,
-    pub next: Cursor,
-}
-
-// The channel with its settings in force, or with settings that are stored and were not all written.
-#[derive(Clone, Copy)]
-pub enum Applied {
-    Ok(RfChannel),
-    Err(RfChannel, Wrong),
-}
-
-#[derive(Clone, Copy)]
-pub struct Stored {
-    pub applied: Applied,
-    pub next: Cursor,
-}
-
 // What the interlock chip's answer means for new settings.
-fn level_written(output: ad5627::Output) -> Written
+fn level_written(output: Result<f32, Error>) -> Result<(), Wrong>
     ensures { result ≡ level_applied output }
 {
     match output {
-        ad5627::Output::Volts(_) => Written::Fine,
-        ad5627::Output::Range => {
-            let wrong = Wrong::Range;
-            Written::Failed(wrong)
-        }
-        ad5627::Output::Bus => {
-            let wrong = Wrong::Chip;
-            Written::Failed(wrong)
-        }
+        Ok(_) => Ok(()),
+        Err(Error::Range) => Err(Wrong::Range),
+        Err(Error::Bus) => Err(Wrong::Chip),
     }
 }
 
 // What the bias chip's answer means for new settings.
-fn bias_written(output: dac7571::Output) -> Written
+fn bias_written(output: Result<f32, Error>) -> Result<(), Wrong>
     ensures { result ≡ bias_applied output }
 {
     match output {
-        dac7571::Output::Volts(_) => Written::Fine,
-        dac7571::Output::Range => {
-            let wrong = Wrong::Range;
-            Written::Failed(wrong)
-        }
-        dac7571::Output::Bus => {
-            let wrong = Wrong::Bus;
-            Written::Failed(wrong)
-        }
+        Ok(_) => Ok(()),
+        Err(Error::Range) => Err(Wrong::Range),
+        Err(Error::Bus) => Err(Wrong::Bus),
     }
 }
 
-// A write that was done, or that was not due.
-fn fine(at: Cursor) -> Wrote
-    ensures { (result.written ≡ Written.Fine) × (result.next ≡ at) }
+fn write_output(bus: &mut Bus, settings: ChannelSettings, changed: bool) -> Result<(), Wrong>
+    requires { HasRoom bus.old 1 1 }
+    ensures lent { bus.new.log.ghost_name ≡ bus.old.log.ghost_name }
+    ensures run { Runs (write_output changed settings) bus.old 1 1 bus.new result }
 {
-    let written = Written::Fine;
-    Wrote { written, next: at }
+    if !changed {
+        return Ok(());
+    }
+    let output = rf_devices::apply_output_interlock_threshold(bus, settings);
+    level_written(output)
 }
 
-fn write_output(
-    log: &mut [u8],
-    replies: &[u8],
-    at: Cursor,
-    settings: ChannelSettings,
-    changed: bool,
-) -> Wrote
-    requires { Room at 1 1 log.old replies.now }
-    ensures { Does (write_output changed settings) replies.now log.old at 1 1 log.new result.next result.written }
+fn write_reflected(bus: &mut Bus, settings: ChannelSettings, changed: bool) -> Result<(), Wrong>
+    requires { HasRoom bus.old 1 1 }
+    ensures lent { bus.new.log.ghost_name ≡ bus.old.log.ghost_name }
+    ensures run { Runs (write_reflected changed settings) bus.old 1 1 bus.new result }
 {
-    if changed {
-        let programmed = rf_devices::apply_output_interlock_threshold(log, replies, at, settings);
-        let output = programmed.output;
-        let next = programmed.next;
-        let ad5627::Output::Volts(_) = output else {
-            let written = level_written(output);
-            return Wrote { written, next };
-        };
-        fine(next)
-    } else {
-        fine(at)
+    if !changed {
+        return Ok(());
     }
+    let power = rf_devices::MAXIMUM_REFLECTED_POWER_DBM;
+    let output = rf_devices::set_reflected_interlock_threshold(bus, settings, power);
+    level_written(output)
 }
 
-fn write_reflected(
-    log: &mut [u8],
-    replies: &[u8],
-    at: Cursor,
-    settings: ChannelSettings,
-    changed: bool,
-) -> Wrote
-    requires { Room at 1 1 log.old replies.now }
-    ensures { Does (write_reflected changed settings) replies.now log.old at 1 1 log.new result.next result.written }
+fn write_bias(bus: &mut Bus, settings: ChannelSettings, changed: bool) -> Result<(), Wrong>
+    requires { HasRoom bus.old 1 1 }
+    ensures lent { bus.new.log.ghost_name ≡ bus.old.log.ghost_name }
+    ensures run { Runs (write_bias changed settings) bus.old 1 1 bus.new result }
 {
-    if changed {
-        let power = rf_devices::MAXIMUM_REFLECTED_POWER_DBM;
-        let programmed = rf_devices::set_reflected_interlock_threshold(
-            log, replies, at, settings, power,
-        );
-        let output = programmed.output;
-        let next = programmed.next;
-        let ad5627::Output::Volts(_) = output else {
-            let written = level_written(output);
-            return Wrote { written, next };
-        };
-        fine(next)
-    } else {
-        fine(at)
+    if !changed {
+        return Ok(());
     }
-}
-
-fn write_bias(
-    log: &mut [u8],
-    replies: &[u8],
-    at: Cursor,
-    settings: ChannelSettings,
-    changed: bool,
-) -> Wrote
-    requires { Room at 1 1 log.old replies.now }
-    ensures { Does (write_bias changed settings) replies.now log.old at 1 1 log.new result.next result.written }
-{
-    if changed {
-        let programmed = rf_machine::apply_bias(log, replies, at, settings);
-        let output = programmed.output;
-        let next = programmed.next;
-        let dac7571::Output::Volts(_) = output else {
-            let written = bias_written(output);
-            return Wrote { written, next };
-        };
-        fine(next)
-    } else {
-        fine(at)
-    }
+    let output = rf_machine::apply_bias(bus, settings);
+    bias_written(output)
 }
 
 // Writes what has changed, in this order; the first that goes wrong ends it.
-fn write_changes(
-    log: &mut [u8],
-    replies: &[u8],
-    at: Cursor,
-    settings: ChannelSettings,
-    due: Changes,
-) -> Wrote
-    requires { Room at 3 3 log.old replies.now }
-    ensures { Does (write_changes due settings) replies.now log.old at 3 3 log.new result.next result.written }
+fn write_changes(bus: &mut Bus, settings: ChannelSettings, due: Changes) -> Result<(), Wrong>
+    requires { HasRoom bus.old 3 3 }
+    ensures lent { bus.new.log.ghost_name ≡ bus.old.log.ghost_name }
+    ensures run { Runs (write_changes due settings) bus.old 3 3 bus.new result }
 {
-    let output = write_output(log, replies, at, settings, due.output);
-    let written = output.written;
-    let next = output.next;
-    let Written::Fine = written else {
-        return output;
-    };
-    let reflected = write_reflected(log, replies, next, settings, due.reflected);
-    let written = reflected.written;
-    let next = reflected.next;
-    let Written::Fine = written else {
-        return reflected;
-    };
-    write_bias(log, replies, next, settings, due.bias)
+    write_output(bus, settings, due.output)?;
+    write_reflected(bus, settings, due.reflected)?;
+    write_bias(bus, settings, due.bias)
 }
 
 // Takes new settings. They are stored before they are written, and stay stored if that fails.
 fn apply_settings(
-    log: &mut [u8],
-    replies: &[u8],
-    at: Cursor,
+    bus: &mut Bus,
     channel: RfChannel,
     settings: ChannelSettings,
-) -> Stored
-    requires { Room at 3 3 log.old replies.now }
-    ensures { Does (apply_settings channel settings) replies.now log.old at 3 3 log.new result.next result.applied }
+) -> Result<RfChannel, (RfChannel, Wrong)>
+    requires { HasRoom bus.old 3 3 }
+    ensures lent { bus.new.log.ghost_name ≡ bus.old.log.ghost_name }
+    ensures run { Runs (apply_settings channel settings) bus.old 3 3 bus.new result }
 {
     let old = channel.settings;
     let equal = rf_changes::same_settings(old, settings);
     if equal {
-        let applied = Applied::Ok(channel);
-        Stored { applied, next: at }
-    } else {
-        let due = rf_changes::changes_of(old, settings);
-        let channel = rf_changes::store(channel, settings);
-        let wrote = write_changes(log, replies, at, settings, due);
-        let written = wrote.written;
-        let next = wrote.next;
-        match written {
-            Written::Fine => {
-                let applied = Applied::Ok(channel);
-                Stored { applied, next }
-            }
-            Written::Failed(wrong) => {
-                let applied = Applied::Err(channel, wrong);
-                Stored { applied, next }
-            }
-        }
+        return Ok(channel);
+    }
+    let due = rf_changes::changes_of(old, settings);
+    let stored = rf_changes::store(channel, settings);
+    match write_changes(bus, settings, due) {
+        Ok(()) => Ok(stored),
+        Err(wrong) => Err((stored, wrong)),
     }
 }
 
 // Raises the event of settings that are in force.
-fn follow_up(
-    log: &mut [u8],
-    replies: &[u8],
-    at: Cursor,
-    channel: RfChannel,
-    wanted: ChannelState,
-    givens: Givens,
-) -> Ended
-    requires { Room at 5 1 log.old replies.now }
-    ensures { Does (following channel wanted givens) replies.now log.old at 5 1 log.new result.next result.outcome }
+fn follow_up(bus: &mut Bus, channel: RfChannel, wanted: ChannelState, givens: Givens) -> Outcome
+    requires { HasRoom bus.old 5 1 }
+    ensures lent { bus.new.log.ghost_name ≡ bus.old.log.ghost_name }
+    ensures run { Runs (following channel wanted givens) bus.old 5 1 bus.new result }
 {
-    let state = channel.state;
-    let follow = rf_changes::event_of(state, wanted);
-    let Follow::Raise(event) = follow else {
-        let report = Report::Plain;
-        let answer = Answer::Done(report);
-        return rf_call::live(channel, answer, at);
-    };
-    rf_call::send(log, replies, at, channel, event, givens)
+    match rf_changes::event_of(channel.state, wanted) {
+        Some(event) => rf_call::send(bus, channel, event, givens),
+        None => Outcome::Live(channel, Answer::Done(Report::Plain)),
+    }
 }
 
 // How settings that were not all written end the call.
-fn refuse(log: &mut [u8], at: Cursor, channel: RfChannel, wrong: Wrong) -> Ended
-    requires { (at.slot < 8) × (16 * (at.used + 2) ≤ length log.old) }
-    ensures { (rs : List ℕ) → Does (refusing channel wrong) rs log.old at 2 0 log.new result.next result.outcome }
+fn refuse(bus: &mut Bus, channel: RfChannel, wrong: Wrong) -> Outcome
+    requires { HasRows bus.old 2 }
+    ensures lent { bus.new.log.ghost_name ≡ bus.old.log.ghost_name }
+    ensures run { Runs (refusing channel wrong) bus.old 2 0 bus.new result }
 {
     match wrong {
-        Wrong::Range => {
-            let answer = Answer::Range;
-            rf_call::live(channel, answer, at)
-        }
-        Wrong::Chip => {
-            let answer = Answer::Chip;
-            rf_call::live(channel, answer, at)
-        }
-        Wrong::Bus => {
-            let cause = Cause::Bus;
-            rf_call::halt(log, at, cause)
-        }
+        Wrong::Range => Outcome::Live(channel, Answer::Range),
+        Wrong::Chip => Outcome::Live(channel, Answer::Chip),
+        Wrong::Bus => rf_call::halt(bus, Cause::Bus),
     }
 }
 
 // Takes new settings and raises the event that they ask for.
 pub fn handle_settings(
-    log: &mut [u8],
-    replies: &[u8],
-    at: Cursor,
+    bus: &mut Bus,
     channel: RfChannel,
     settings: ChannelSettings,
     givens: Givens,
-) -> Ended
-    requires { Room at 8 4 log.old replies.now }
-    ensures { Does (handle_settings channel settings givens) replies.now log.old at 8 4 log.new result.next result.outcome }
+) -> Outcome
+    requires { HasRoom bus.old 8 4 }
+    ensures lent { bus.new.log.ghost_name ≡ bus.old.log.ghost_name }
+    ensures run { Runs (handle_settings channel settings givens) bus.old 8 4 bus.new result }
 {
-    let stored = apply_settings(log, replies, at, channel, settings);
-    let applied = stored.applied;
-    let next = stored.next;
-    match applied {
-        Applied::Ok(channel) => {
-            let wanted = settings.state;
-            follow_up(log, replies, next, channel, wanted, givens)
-        }
-        Applied::Err(channel, wrong) => refuse(log, next, channel, wrong),
+    match apply_settings(bus, channel, settings) {
+        Ok(channel) => follow_up(bus, channel, settings.state, givens),
+        Err((channel, wrong)) => refuse(bus, channel, wrong),
     }
 }

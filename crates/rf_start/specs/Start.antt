@@ -1,30 +1,16 @@
 -- The start of a channel, in document 01's order. Definitions only.
-use Rattle.std.specs.Prelude.{Bool, false, cond, eqb}
+use Rattle.std.specs.Prelude.{Bool, false, cond, eqb, Result, Ok, Err, ℕ, Float}
 use Rattle.conversions.specs.Constants.{v3_3}
 use Rattle.bus.specs.declared.Note.TheVariants.{SignalOn, EnablePower}
 use Rattle.bus.specs.Run.{Run, done, bind, mapped}
-use Rattle.ads7924.specs.declared.Alarm.{Alarm}
-use Rattle.ads7924.specs.declared.Alarm.TheVariants.{Mask, Bus as unheard}
 use Rattle.ads7924.specs.declared.Channel.TheVariants.{Three}
-use Rattle.ads7924.specs.declared.Opening as Mo
-use Rattle.ads7924.specs.declared.Opening.TheVariants as M
-use Rattle.ads7924.specs.declared.Reading as Re
-use Rattle.ads7924.specs.declared.Reading.TheVariants as R
 use Rattle.ads7924.specs.Calls as Ads7924
-use Rattle.ad5627.specs.declared.Opening as Io
-use Rattle.ad5627.specs.declared.Opening.TheVariants as I
-use Rattle.ad5627.specs.declared.Output as Lo
-use Rattle.ad5627.specs.declared.Output.TheVariants as L
 use Rattle.ad5627.specs.Opening as Ad5627
-use Rattle.mcp3221.specs.declared.Reading as Po
-use Rattle.mcp3221.specs.declared.Reading.TheVariants as P
 use Rattle.mcp3221.specs.Voltage as Mcp3221
 use Rattle.rf_channel.specs.declared.ChannelSettings.{ChannelSettings}
 use Rattle.rf_channel.specs.declared.RfChannel.{RfChannel}
 use Rattle.rf_channel.specs.declared.States.TheVariants.{Off}
 use Rattle.rf_machine.specs.declared.Cause.TheVariants.{Bus, Alarm as Alarmed, Threshold}
-use Rattle.rf_machine.specs.declared.Effect.{Effect}
-use Rattle.rf_machine.specs.declared.Effect.TheVariants.{Did, Stop}
 use Rattle.rf_machine.specs.Hardware.{◌and_then◌, pin, pinch_off}
 use Rattle.rf_devices.specs.Devices.{highest_reflected, apply_output, set_reflected}
 use Rattle.rf_call.specs.declared.Answer.TheVariants.{Done}
@@ -34,31 +20,35 @@ use Rattle.rf_call.specs.declared.Report.TheVariants.{Plain}
 use Rattle.rf_call.specs.Calls.{or_halt}
 use Rattle.rf_start.specs.declared.Presence.{Presence}
 use Rattle.rf_start.specs.declared.Presence.TheVariants.{Present, Absent}
+use Rattle.rf_machine.specs.declared.Cause.{Cause}
+use Rattle.bus.specs.declared.Failed.{Failed}
+use Rattle.bus.specs.declared.Error.{Error}
+use Rattle.bus.specs.declared.Error.TheVariants as Chip
 
 -- ---- the mainboard: what fails here halts
 
 -- signal_on low, enable_power low, bias 3.2
-unfoldable pub beginning : Run Effect
+unfoldable pub beginning : Run (Result (Unit {0}) Cause)
 beginning = pin (SignalOn false) and_then pin (EnablePower false) and_then pinch_off
 
 -- the power monitor's answers: a bus failure is cause 1, an alarm cause 2
-abbrev pub ready : Mo.Opening → Effect
-ready M.Ready = Did
-ready M.Bus = Stop Bus
+abbrev pub ready : Result (Unit {0}) Failed → Result (Unit {0}) Cause
+ready (Ok tt) = (Ok tt)
+ready (Err e) = Err Bus
 
-abbrev pub heard : Re.Reading → Effect
-heard (R.Volts v) = Did
-heard R.Bus = Stop Bus
+abbrev pub heard : Result Float Failed → Result (Unit {0}) Cause
+heard (Ok v) = (Ok tt)
+heard (Err e) = Err Bus
 
-abbrev pub quiet : Alarm → Effect
-quiet (Mask mask) = cond (eqb mask 0) Did (Stop Alarmed)
-quiet unheard = Stop Bus
+abbrev pub quiet : Result ℕ Failed → Result (Unit {0}) Cause
+quiet (Ok mask) = cond (eqb mask 0) (Ok tt) (Err Alarmed)
+quiet (Err e) = Err Bus
 
 -- its opening, the voltage of channel 3, the alarm
-unfoldable pub monitor : Run Effect
+unfoldable pub monitor : Run (Result (Unit {0}) Cause)
 monitor = mapped ready Ads7924.opening and_then mapped heard (Ads7924.get_voltage Three) and_then mapped quiet Ads7924.clear_alarm
 
-unfoldable pub preparing : Run Effect
+unfoldable pub preparing : Run (Result (Unit {0}) Cause)
 preparing = beginning and_then monitor
 
 -- ---- the module: what fails here is an absent module
@@ -67,13 +57,13 @@ unfoldable pub on_present : Run Presence → Presence → Run Presence
 on_present k Present = k
 on_present k Absent = done Absent
 
-abbrev pub opened : Io.Opening → Presence
-opened I.Ready = Present
-opened I.Bus = Absent
+abbrev pub opened : Result (Unit {0}) Failed → Presence
+opened (Ok tt) = Present
+opened (Err e) = Absent
 
-abbrev pub there : Po.Reading → Presence
-there (P.Volts v) = Present
-there P.Bus = Absent
+abbrev pub there : Result Float Failed → Presence
+there (Ok v) = Present
+there (Err e) = Absent
 
 -- the interlock chip's opening, the flag for EEPROM and temperature chip, the input power's chip
 unfoldable pub module_there : Bool → Run Presence
@@ -81,12 +71,12 @@ module_there present = bind (mapped opened Ad5627.opening) (on_present (cond pre
 
 -- ---- the trip levels: one refused is cause 4, a failed write cause 1
 
-abbrev pub level_set : Lo.Output → Effect
-level_set (L.Volts v) = Did
-level_set L.Range = Stop Threshold
-level_set L.Bus = Stop Bus
+abbrev pub level_set : Result Float Error → Result (Unit {0}) Cause
+level_set (Ok v) = (Ok tt)
+level_set (Err Chip.Range) = Err Threshold
+level_set (Err Chip.Bus) = Err Bus
 
-unfoldable pub levels : ChannelSettings → Run Effect
+unfoldable pub levels : ChannelSettings → Run (Result (Unit {0}) Cause)
 levels s = mapped level_set (apply_output s) and_then mapped level_set (set_reflected s highest_reflected)
 
 -- ---- the start

@@ -2,254 +2,144 @@
 #![tactic(auto)]
 
 ghost use Rattle.std.specs.Prelude.{◌≡◌};
-ghost use Rattle.bus.specs.Run.{Does, Room};
+ghost use Rattle.bus.specs.Run.{Runs, HasRoom};
 ghost use Rattle.rf_start.specs.Start.{beginning, quiet, monitor, preparing, module_there, level_set, levels, fresh, settling, starting};
 
-use ads7924::Alarm;
-use bus::{Cursor, Note};
-use rf_call::{Answer, Ended, Outcome, Report};
+use ads7924::Channel;
+use bus::{Bus, Error, Failed, Note};
+use rf_call::{Answer, Outcome, Report};
 use rf_channel::{ChannelSettings, RfChannel, States};
-use rf_machine::{Acted, Cause, Effect};
+use rf_machine::Cause;
 
-// A module is there, or it is not.
+// A module is there, or it is not. No bool: its two cases say which is which.
 #[derive(Clone, Copy)]
 pub enum Presence {
     Present,
     Absent,
 }
 
-#[derive(Clone, Copy)]
-pub struct Found {
-    pub presence: Presence,
-    pub next: Cursor,
-}
-
-fn acted(effect: Effect, at: Cursor) -> Acted
-    ensures { (result.effect ≡ effect) × (result.next ≡ at) }
-{
-    Acted { effect, next: at }
-}
-
-fn stop(cause: Cause, at: Cursor) -> Acted
-    ensures { (result.effect ≡ Effect.Stop cause) × (result.next ≡ at) }
-{
-    let effect = Effect::Stop(cause);
-    Acted { effect, next: at }
-}
-
-fn found_at(presence: Presence, at: Cursor) -> Found
-    ensures { (result.presence ≡ presence) × (result.next ≡ at) }
-{
-    Found { presence, next: at }
-}
-
 // Both pins low, and the amplifier in pinch-off.
-fn begin(log: &mut [u8], replies: &[u8], at: Cursor) -> Acted
-    requires { Room at 3 1 log.old replies.now }
-    ensures { Does beginning replies.now log.old at 3 1 log.new result.next result.effect }
+fn begin(bus: &mut Bus) -> Result<(), Cause>
+    requires { HasRoom bus.old 3 1 }
+    ensures lent { bus.new.log.ghost_name ≡ bus.old.log.ghost_name }
+    ensures run { Runs beginning bus.old 3 1 bus.new result }
 {
-    let low = Note::SignalOn(false);
-    let next = bus::add_note(log, at, low);
-    let low = Note::EnablePower(false);
-    let next = bus::add_note(log, next, low);
-    rf_machine::pinch_off(log, replies, next)
+    bus.note(Note::SignalOn(false));
+    bus.note(Note::EnablePower(false));
+    rf_machine::pinch_off(bus)
 }
 
 // No channel of the power monitor may raise an alarm.
-fn alarm_effect(alarm: Alarm) -> Effect
+fn quiet(alarm: Result<u8, Failed>) -> Result<(), Cause>
     ensures { result ≡ quiet alarm }
 {
     match alarm {
-        Alarm::Mask(mask) => {
-            if mask == 0 {
-                Effect::Did
-            } else {
-                let cause = Cause::Alarm;
-                Effect::Stop(cause)
-            }
-        }
-        Alarm::Bus => {
-            let cause = Cause::Bus;
-            Effect::Stop(cause)
-        }
+        Ok(0) => Ok(()),
+        Ok(_) => Err(Cause::Alarm),
+        Err(_) => Err(Cause::Bus),
     }
 }
 
 // The power monitor answers, and there is no alarm.
-fn check_monitor(log: &mut [u8], replies: &[u8], at: Cursor) -> Acted
-    requires { Room at 10 9 log.old replies.now }
-    ensures { Does monitor replies.now log.old at 10 9 log.new result.next result.effect }
+fn check_monitor(bus: &mut Bus) -> Result<(), Cause>
+    requires { HasRoom bus.old 10 9 }
+    ensures lent { bus.new.log.ghost_name ≡ bus.old.log.ghost_name }
+    ensures run { Runs monitor bus.old 10 9 bus.new result }
 {
-    let opened = ads7924::default_at(log, replies, at);
-    let opening = opened.opening;
-    let next = opened.next;
-    let ads7924::Opening::Ready = opening else {
-        let cause = Cause::Bus;
-        return stop(cause, next);
-    };
-    let channel = ads7924::Channel::Three;
-    let measured = ads7924::get_voltage_at(log, replies, next, channel);
-    let reading = measured.reading;
-    let next = measured.next;
-    let ads7924::Reading::Volts(_) = reading else {
-        let cause = Cause::Bus;
-        return stop(cause, next);
-    };
-    let cleared = ads7924::clear_alarm_at(log, replies, next);
-    let alarm = cleared.alarm;
-    let next = cleared.next;
-    let effect = alarm_effect(alarm);
-    acted(effect, next)
+    ads7924::default_at(bus)?;
+    ads7924::get_voltage_at(bus, Channel::Three)?;
+    let alarm = ads7924::clear_alarm_at(bus);
+    quiet(alarm)
 }
 
 // The module's chips answer. The EEPROM and the temperature chip are told by a flag.
-fn find_module(log: &mut [u8], replies: &[u8], at: Cursor, present: bool) -> Found
-    requires { Room at 3 3 log.old replies.now }
-    ensures { Does (module_there present) replies.now log.old at 3 3 log.new result.next result.presence }
+fn find_module(bus: &mut Bus, present: bool) -> Presence
+    requires { HasRoom bus.old 3 3 }
+    ensures lent { bus.new.log.ghost_name ≡ bus.old.log.ghost_name }
+    ensures run { Runs (module_there present) bus.old 3 3 bus.new result }
 {
-    let opened = ad5627::default_at(log, replies, at);
-    let opening = opened.opening;
-    let next = opened.next;
-    let ad5627::Opening::Ready = opening else {
-        let presence = Presence::Absent;
-        return found_at(presence, next);
+    let Ok(()) = ad5627::default_at(bus) else {
+        return Presence::Absent;
     };
     if present {
-        let measured = mcp3221::get_voltage_at(log, replies, next, 3.3);
-        let reading = measured.reading;
-        let next = measured.next;
-        let mcp3221::Reading::Volts(_) = reading else {
-            let presence = Presence::Absent;
-            return found_at(presence, next);
-        };
-        let presence = Presence::Present;
-        found_at(presence, next)
+        match mcp3221::get_voltage_at(bus, 3.3) {
+            Ok(_) => Presence::Present,
+            Err(_) => Presence::Absent,
+        }
     } else {
-        let presence = Presence::Absent;
-        found_at(presence, next)
+        Presence::Absent
     }
 }
 
 // What the interlock chip's answer means at the start.
-fn level_effect(output: ad5627::Output) -> Effect
+fn level_set(output: Result<f32, Error>) -> Result<(), Cause>
     ensures { result ≡ level_set output }
 {
     match output {
-        ad5627::Output::Volts(_) => Effect::Did,
-        ad5627::Output::Range => {
-            let cause = Cause::Threshold;
-            Effect::Stop(cause)
-        }
-        ad5627::Output::Bus => {
-            let cause = Cause::Bus;
-            Effect::Stop(cause)
-        }
+        Ok(_) => Ok(()),
+        Err(Error::Range) => Err(Cause::Threshold),
+        Err(Error::Bus) => Err(Cause::Bus),
     }
 }
 
 // Both trip levels.
-fn set_levels(log: &mut [u8], replies: &[u8], at: Cursor, settings: ChannelSettings) -> Acted
-    requires { Room at 2 2 log.old replies.now }
-    ensures { Does (levels settings) replies.now log.old at 2 2 log.new result.next result.effect }
+fn set_levels(bus: &mut Bus, settings: ChannelSettings) -> Result<(), Cause>
+    requires { HasRoom bus.old 2 2 }
+    ensures lent { bus.new.log.ghost_name ≡ bus.old.log.ghost_name }
+    ensures run { Runs (levels settings) bus.old 2 2 bus.new result }
 {
-    let programmed = rf_devices::apply_output_interlock_threshold(log, replies, at, settings);
-    let output = programmed.output;
-    let next = programmed.next;
-    let ad5627::Output::Volts(_) = output else {
-        let effect = level_effect(output);
-        return acted(effect, next);
-    };
+    let output = rf_devices::apply_output_interlock_threshold(bus, settings);
+    level_set(output)?;
     let power = rf_devices::MAXIMUM_REFLECTED_POWER_DBM;
-    let programmed = rf_devices::set_reflected_interlock_threshold(
-        log, replies, next, settings, power,
-    );
-    let output = programmed.output;
-    let next = programmed.next;
-    let ad5627::Output::Volts(_) = output else {
-        let effect = level_effect(output);
-        return acted(effect, next);
-    };
-    let effect = Effect::Did;
-    acted(effect, next)
+    let reflected = rf_devices::set_reflected_interlock_threshold(bus, settings, power);
+    level_set(reflected)
 }
 
 // A channel that has just been started.
 fn fresh_channel(settings: ChannelSettings) -> RfChannel
     ensures { result ≡ fresh settings }
 {
-    let state = States::Off;
     RfChannel {
         settings,
-        state,
+        state: States::Off,
         signal_on: false,
         enable_power: false,
     }
 }
 
-fn absent(at: Cursor) -> Ended
-    ensures { (result.outcome ≡ Outcome.Absent) × (result.next ≡ at) }
-{
-    let outcome = Outcome::Absent;
-    Ended { outcome, next: at }
-}
-
 // The mainboard's part of the start.
-fn prepare(log: &mut [u8], replies: &[u8], at: Cursor) -> Acted
-    requires { Room at 13 10 log.old replies.now }
-    ensures { Does preparing replies.now log.old at 13 10 log.new result.next result.effect }
+fn prepare(bus: &mut Bus) -> Result<(), Cause>
+    requires { HasRoom bus.old 13 10 }
+    ensures lent { bus.new.log.ghost_name ≡ bus.old.log.ghost_name }
+    ensures run { Runs preparing bus.old 13 10 bus.new result }
 {
-    let begun = begin(log, replies, at);
-    let effect = begun.effect;
-    let next = begun.next;
-    let Effect::Did = effect else {
-        return begun;
-    };
-    check_monitor(log, replies, next)
+    begin(bus)?;
+    check_monitor(bus)
 }
 
 // The last part: the trip levels, and the channel.
-fn settle(log: &mut [u8], replies: &[u8], at: Cursor, settings: ChannelSettings) -> Ended
-    requires { Room at 4 2 log.old replies.now }
-    ensures { Does (settling settings) replies.now log.old at 4 2 log.new result.next result.outcome }
+fn settle(bus: &mut Bus, settings: ChannelSettings) -> Outcome
+    requires { HasRoom bus.old 4 2 }
+    ensures lent { bus.new.log.ghost_name ≡ bus.old.log.ghost_name }
+    ensures run { Runs (settling settings) bus.old 4 2 bus.new result }
 {
-    let set = set_levels(log, replies, at, settings);
-    let effect = set.effect;
-    let next = set.next;
-    match effect {
-        Effect::Stop(cause) => rf_call::halt(log, next, cause),
-        Effect::Did => {
-            let channel = fresh_channel(settings);
-            let report = Report::Plain;
-            let answer = Answer::Done(report);
-            rf_call::live(channel, answer, next)
-        }
+    match set_levels(bus, settings) {
+        Ok(()) => Outcome::Live(fresh_channel(settings), Answer::Done(Report::Plain)),
+        Err(cause) => rf_call::halt(bus, cause),
     }
 }
 
 // Starts a channel with these settings.
-pub fn start(
-    log: &mut [u8],
-    replies: &[u8],
-    at: Cursor,
-    settings: ChannelSettings,
-    present: bool,
-) -> Ended
-    requires { Room at 20 15 log.old replies.now }
-    ensures { Does (starting settings present) replies.now log.old at 20 15 log.new result.next result.outcome }
+pub fn start(bus: &mut Bus, settings: ChannelSettings, present: bool) -> Outcome
+    requires { HasRoom bus.old 20 15 }
+    ensures lent { bus.new.log.ghost_name ≡ bus.old.log.ghost_name }
+    ensures run { Runs (starting settings present) bus.old 20 15 bus.new result }
 {
-    let prepared = prepare(log, replies, at);
-    let effect = prepared.effect;
-    let next = prepared.next;
-    match effect {
-        Effect::Stop(cause) => rf_call::halt(log, next, cause),
-        Effect::Did => {
-            let found = find_module(log, replies, next, present);
-            let presence = found.presence;
-            let next = found.next;
-            let Presence::Present = presence else {
-                return absent(next);
-            };
-            settle(log, replies, next, settings)
-        }
+    match prepare(bus) {
+        Err(cause) => rf_call::halt(bus, cause),
+        Ok(()) => match find_module(bus, present) {
+            Presence::Absent => Outcome::Absent,
+            Presence::Present => settle(bus, settings),
+        },
     }
 }

@@ -1,10 +1,9 @@
 -- The seven numbers of a status and their places in the caller's slice. Definitions only.
-use Rattle.std.specs.Prelude.{List, ◌∷◌, drop, Float}
+use Rattle.std.specs.Prelude.{List, ◌∷◌, drop, Float, Result, Ok, Err}
 use Rattle.std.specs.Float.{binary32}
 use Rattle.std.specs.Float.Ieee.{of_bits, mul, div}
-use Rattle.rf_status.specs.declared.Measures.{Measures}
-use Rattle.rf_status.specs.declared.Measures.TheVariants.{All, Stopped}
 use Rattle.rf_status.specs.declared.Numbers.{Numbers}
+use Rattle.rf_machine.specs.declared.Cause.{Cause}
 
 -- ---- currents, the 5 V rail; every operation rounds
 
@@ -30,6 +29,6 @@ abbrev pub filled : Numbers → List Float → List Float
 filled n l = n.temperature ∷ n.p28v_current ∷ n.p5v_current ∷ n.p5v_voltage ∷ n.input_power ∷ n.reflected_power ∷ n.output_power ∷ drop 7 l
 
 -- only a whole status is shown
-unfoldable pub shown_of : Measures → List Float → List Float
-shown_of (All n) l = filled n l
-shown_of (Stopped cause) l = l
+unfoldable pub shown_of : Result Numbers Cause → List Float → List Float
+shown_of (Ok n) l = filled n l
+shown_of (Err cause) l = l

@@ -2,15 +2,14 @@
 #![tactic(auto)]
 
 ghost use Rattle.std.specs.Prelude.{◌≤◌, ◌≡◌, length};
-ghost use Rattle.bus.specs.Run.{Does, Room};
+ghost use Rattle.bus.specs.Run.{Runs, HasRoom};
 ghost use Rattle.rf_status.specs.Numbers.{p28v_current_of, p5v_current_of, p5v_voltage_of, filled, shown_of};
 ghost use Rattle.rf_status.specs.Status.{numbers_of, measuring, status_of, getting_status};
 
-use ads7924::{Four, Readings};
-use bus::Cursor;
-use rf_call::{Answer, ChannelStatus, Ended, Givens, Report, Temperature};
+use ads7924::Four;
+use bus::Bus;
+use rf_call::{Answer, ChannelStatus, Givens, Outcome, Report};
 use rf_channel::RfChannel;
-use rf_devices::Power;
 use rf_machine::Cause;
 
 // The millivolts of the two power detectors, as the processor's own converter reads them.
@@ -30,19 +29,6 @@ pub struct Numbers {
     pub input_power: f32,
     pub reflected_power: f32,
     pub output_power: f32,
-}
-
-// All that a status measures, or why the channel has to halt.
-#[derive(Clone, Copy)]
-pub enum Measures {
-    All(Numbers),
-    Stopped(Cause),
-}
-
-#[derive(Clone, Copy)]
-pub struct Taken {
-    pub measures: Measures,
-    pub next: Cursor,
 }
 
 // The current of the 28 V rail: 100 Ohm over 100 mOhm over 4.3 kOhm of the sensor.
@@ -75,63 +61,34 @@ fn numbers_of(
 ) -> Numbers
     ensures { result ≡ numbers_of channel.settings detectors four temperature input_power }
 {
-    let p28v = p28v_current(four.v0);
-    let p5v = p5v_current(four.v1);
-    let rail = p5v_voltage(four.v3);
-    let reflected = rf_methods::get_reflected_power(channel, detectors.reflected);
-    let output = rf_methods::get_output_power(channel, detectors.output);
     Numbers {
         temperature,
-        p28v_current: p28v,
-        p5v_current: p5v,
-        p5v_voltage: rail,
+        p28v_current: p28v_current(four.v0),
+        p5v_current: p5v_current(four.v1),
+        p5v_voltage: p5v_voltage(four.v3),
         input_power,
-        reflected_power: reflected,
-        output_power: output,
+        reflected_power: rf_methods::get_reflected_power(channel, detectors.reflected),
+        output_power: rf_methods::get_output_power(channel, detectors.output),
     }
-}
-
-fn stopped(cause: Cause, at: Cursor) -> Taken
-    ensures { (result.measures ≡ Measures.Stopped cause) × (result.next ≡ at) }
-{
-    let measures = Measures::Stopped(cause);
-    Taken { measures, next: at }
 }
 
 // Measures, in this order: the four voltages, the temperature, the input power.
 fn measure(
-    log: &mut [u8],
-    replies: &[u8],
-    at: Cursor,
+    bus: &mut Bus,
     channel: RfChannel,
     detectors: Detectors,
-    temperature: Temperature,
-) -> Taken
-    requires { Room at 5 5 log.old replies.now }
-    ensures { Does (measuring channel.settings detectors temperature) replies.now log.old at 5 5 log.new result.next result.measures }
+    temperature: Option<f32>,
+) -> Result<Numbers, Cause>
+    requires { HasRoom bus.old 5 5 }
+    ensures lent { bus.new.log.ghost_name ≡ bus.old.log.ghost_name }
+    ensures run { Runs (measuring channel.settings detectors temperature) bus.old 5 5 bus.new result }
 {
-    let scanned = ads7924::get_voltages_at(log, replies, at);
-    let readings = scanned.readings;
-    let next = scanned.next;
-    let Readings::Volts(four) = readings else {
-        let cause = Cause::Bus;
-        return stopped(cause, next);
+    let four = ads7924::get_voltages_at(bus)?;
+    let Some(celsius) = temperature else {
+        return Err(Cause::Temperature);
     };
-    let Temperature::Celsius(celsius) = temperature else {
-        let cause = Cause::Temperature;
-        return stopped(cause, next);
-    };
-    let settings = channel.settings;
-    let sensed = rf_devices::get_input_power(log, replies, next, settings);
-    let power = sensed.power;
-    let next = sensed.next;
-    let Power::Dbm(dbm) = power else {
-        let cause = Cause::Bus;
-        return stopped(cause, next);
-    };
-    let numbers = numbers_of(channel, detectors, four, celsius, dbm);
-    let measures = Measures::All(numbers);
-    Taken { measures, next }
+    let dbm = rf_devices::get_input_power(bus, channel.settings)?;
+    Ok(numbers_of(channel, detectors, four, celsius, dbm))
 }
 
 // Puts the seven numbers into the caller's slice. What lies behind them stays.
@@ -139,54 +96,48 @@ fn fill(numbers: &mut [f32], seven: Numbers)
     requires { 7 ≤ length numbers.old }
     ensures { numbers.new ≡ filled seven numbers.old }
 {
-    numbers[0] = seven.temperature;
-    numbers[1] = seven.p28v_current;
-    numbers[2] = seven.p5v_current;
-    numbers[3] = seven.p5v_voltage;
-    numbers[4] = seven.input_power;
-    numbers[5] = seven.reflected_power;
-    numbers[6] = seven.output_power;
+    numbers[..7].copy_from_slice(&[
+        seven.temperature,
+        seven.p28v_current,
+        seven.p5v_current,
+        seven.p5v_voltage,
+        seven.input_power,
+        seven.reflected_power,
+        seven.output_power,
+    ]);
 }
 
 // The flags and the state. The alert pin is low when there is an alert.
 fn status_of(channel: RfChannel, givens: Givens) -> ChannelStatus
     ensures { result ≡ status_of channel givens }
 {
-    let state = channel.state;
-    let alert = !givens.alert;
     ChannelStatus {
         reflected_overdrive: givens.reflected_overdrive,
         output_overdrive: givens.output_overdrive,
-        alert,
-        state,
+        alert: !givens.alert,
+        state: channel.state,
     }
 }
 
 // The status of the channel. Only a whole one is put into the caller's slice.
 pub fn get_status(
-    log: &mut [u8],
-    replies: &[u8],
+    bus: &mut Bus,
     numbers: &mut [f32],
-    at: Cursor,
     channel: RfChannel,
     detectors: Detectors,
     givens: Givens,
-) -> Ended
-    requires { Room at 7 5 log.old replies.now × (7 ≤ length numbers.old) }
-    ensures { Does (getting_status channel detectors givens) replies.now log.old at 7 5 log.new result.next result.outcome × (numbers.new ≡ shown_of (measuring channel.settings detectors givens.temperature replies.now at.slot at.taken).ans numbers.old) }
+) -> Outcome
+    requires { HasRoom bus.old 7 5 × (7 ≤ length numbers.old) }
+    ensures lent { bus.new.log.ghost_name ≡ bus.old.log.ghost_name }
+    ensures run { Runs (getting_status channel detectors givens) bus.old 7 5 bus.new result }
+    ensures shown { numbers.new ≡ shown_of (measuring channel.settings detectors givens.temperature bus.old.replies.now bus.old.at.slot bus.old.at.taken).ans numbers.old }
 {
-    let temperature = givens.temperature;
-    let taken = measure(log, replies, at, channel, detectors, temperature);
-    let measures = taken.measures;
-    let next = taken.next;
-    match measures {
-        Measures::All(seven) => {
+    match measure(bus, channel, detectors, givens.temperature) {
+        Ok(seven) => {
             fill(numbers, seven);
             let status = status_of(channel, givens);
-            let report = Report::Status(status);
-            let answer = Answer::Done(report);
-            rf_call::live(channel, answer, next)
+            Outcome::Live(channel, Answer::Done(Report::Status(status)))
         }
-        Measures::Stopped(cause) => rf_call::halt(log, next, cause),
+        Err(cause) => rf_call::halt(bus, cause),
     }
 }

@@ -2,53 +2,35 @@
 use mathlib.Core.Path.{◌≡◌, refl}
 use mathlib.Core.Bool.{Bool, true, false, cond}
 use lib.Ieee.{Float}
+use Rattle.std.specs.Prelude.{Option, None, Some, Result, Ok, Err}
+use Rattle.std.specs.Prelude as P
 use Rattle.bus.specs.declared.Note.TheVariants.{SignalOn, EnablePower}
 use Rattle.bus.specs.Run.{Run, done, bind, mapped, note}
 use Rattle.rf_channel.specs.declared.ChannelSettings.{ChannelSettings}
 use Rattle.rf_channel.specs.declared.ChannelState.{ChannelState}
+use Rattle.rf_channel.specs.declared.ChannelFault.{ChannelFault}
+use Rattle.rf_channel.specs.declared.Interlock.{Interlock}
 use Rattle.rf_channel.specs.declared.Events.{Events}
 use Rattle.rf_channel.specs.declared.Events.TheVariants as E
 use Rattle.rf_channel.specs.declared.RfChannel.{RfChannel}
 use Rattle.rf_machine.specs.declared.Cause.{Cause}
-use Rattle.rf_machine.specs.declared.Step.{Step}
-use Rattle.rf_machine.specs.declared.Step.TheVariants.{Went, Stopped as Stops}
 use Rattle.rf_machine.specs.declared.Told.{Told}
 use Rattle.rf_machine.specs.Event.{process_event}
-use Rattle.rf_devices.specs.declared.Power.{Power}
-use Rattle.rf_devices.specs.declared.Power.TheVariants.{Dbm, Bus as Unheard}
 use Rattle.rf_devices.specs.Devices.{get_input_power}
 use Rattle.rf_call.specs.declared.Answer.{Answer}
 use Rattle.rf_call.specs.declared.Givens.{Givens}
 use Rattle.rf_call.specs.declared.Outcome.{Outcome}
 use Rattle.rf_call.specs.declared.Outcome.TheVariants.{Live, Absent, Halted}
-use Rattle.rf_call.specs.declared.Temperature.{Temperature}
-use Rattle.rf_call.specs.declared.Temperature.TheVariants.{Celsius, Failed as Unread}
 use Rattle.rf_call.specs.Calls.{halting, after_event, answering, quietly, interlock_reset, handle_startup, standing}
-use Rattle.rf_tests.specs.declared.Check.{Check}
-use Rattle.rf_tests.specs.declared.Check.TheVariants.{Fine, Found, Failed}
-use Rattle.rf_tests.specs.declared.Overdrive.{Overdrive}
-use Rattle.rf_tests.specs.declared.Overdrive.TheVariants.{Quiet, Source}
-use Rattle.rf_update.specs.declared.Stage.{Stage}
-use Rattle.rf_update.specs.declared.Stage.TheVariants.{Going, Stopped}
 use Rattle.rf_tests.specs.Tests.{check_faults, overdrive_source, is_enabled}
 use Rattle.rf_update.specs.Update.{stage_of, raising, on_check, fault_stage, on_overdrive, on_power, trip_stage, after_stage, finishing, updating}
-use Rattle.rf_settings.specs.declared.Applied.{Applied}
-use Rattle.rf_settings.specs.declared.Applied.TheVariants.{Ok, Err}
 use Rattle.rf_changes.specs.declared.Changes.{Changes}
-use Rattle.rf_changes.specs.declared.Follow.{Follow}
-use Rattle.rf_changes.specs.declared.Follow.TheVariants.{Nothing, Raise}
-use Rattle.rf_settings.specs.declared.Written.{Written}
-use Rattle.rf_settings.specs.declared.Written.TheVariants.{Fine as Wrote, Failed as NotWritten}
 use Rattle.rf_settings.specs.declared.Wrong.{Wrong}
 use Rattle.rf_settings.specs.declared.Wrong.TheVariants.{Range, Chip, Bus}
 use Rattle.rf_changes.specs.Changes.{same, changes_of, stored, event_of}
 use Rattle.rf_settings.specs.Settings.{on_fine, write_output, write_reflected, write_bias, write_changes, applied_to, apply_settings, on_follow, following, refusing, on_applied, handle_settings}
 use Rattle.ads7924.specs.declared.Four.{Four}
-use Rattle.ads7924.specs.declared.Readings.{Readings}
-use Rattle.ads7924.specs.declared.Readings.TheVariants.{Volts, Bus as AllUnread}
 use Rattle.rf_status.specs.declared.Detectors.{Detectors}
-use Rattle.rf_status.specs.declared.Measures.{Measures}
-use Rattle.rf_status.specs.declared.Measures.TheVariants.{All, Stopped as NotAll}
 use Rattle.rf_status.specs.declared.Numbers.{Numbers}
 use Rattle.rf_status.specs.Status.{on_input, on_temperature, on_voltages, measuring, on_measures, getting_status}
 use Rattle.rf_calls.specs.declared.Request.{Request}
@@ -58,6 +40,7 @@ use Rattle.rf_theorems.specs.Pins.{Levels, low}
 use Rattle.rf_theorems.proofs.Keeps.{Keeps, Still, keeps_done, keeps_bind, keeps_mapped, keeps_note, still_done, still_bind, still_mapped}
 use Rattle.rf_theorems.proofs.Chips.{still_bias, still_input, still_output, still_reflected, still_ads7924_all, still_cond}
 use Rattle.rf_theorems.proofs.Rule.{Walked}
+use Rattle.bus.specs.declared.Failed.{Failed}
 
 -- a call leaves a channel that satisfies I, or halts with both pins low
 unfoldable pub Ends : (Levels → RfChannel → Type 0) → Levels → Outcome → Type 0
@@ -67,10 +50,10 @@ Ends I q (Halted cause) = q ≡ low
 
 -- ---- writes and measurements leave the pins alone
 
-still_fine : (k : Run Written) → Still k → (w : Written) → Still (on_fine k w)
+still_fine : (k : Run (Result (Unit {0}) Wrong)) → Still k → (w : Result (Unit {0}) Wrong) → Still (on_fine k w)
 unfolding on_fine
-still_fine k s Wrote = s
-still_fine k s (NotWritten wrong) = still_done _
+still_fine k s (Ok tt) = s
+still_fine k s (Err wrong) = still_done _
 
 still_changes : (due : Changes) (s : ChannelSettings) → Still (write_changes due s)
 unfolding write_changes write_output write_reflected write_bias
@@ -80,22 +63,22 @@ still_changes due s =
     (still_bind _ _ (still_cond due.reflected (still_mapped _ _ (still_reflected s _)) (still_done _))
     (still_fine _ (still_cond due.bias (still_mapped _ _ (still_bias s)) (still_done _)))))
 
-still_on_input : (n : Float → Numbers) (x : Power) → Still (on_input n x)
+still_on_input : (n : Float → Numbers) (x : Result Float Failed) → Still (on_input n x)
 unfolding on_input
-still_on_input n (Dbm power) = still_done _
-still_on_input n Unheard = still_done _
+still_on_input n (Ok power) = still_done _
+still_on_input n (Err e) = still_done _
 
-still_temperature : (s : ChannelSettings) (d : Detectors) (four : Four) (t : Temperature) → Still (on_temperature s d four t)
+still_temperature : (s : ChannelSettings) (d : Detectors) (four : Four) (t : Option Float) → Still (on_temperature s d four t)
 unfolding on_temperature
-still_temperature s d four (Celsius t) = still_bind _ _ (still_input s) (still_on_input _)
-still_temperature s d four Unread = still_done _
+still_temperature s d four (Some t) = still_bind _ _ (still_input s) (still_on_input _)
+still_temperature s d four None = still_done _
 
-still_voltages : (s : ChannelSettings) (d : Detectors) (t : Temperature) (x : Readings) → Still (on_voltages s d t x)
+still_voltages : (s : ChannelSettings) (d : Detectors) (t : Option Float) (x : Result Four Failed) → Still (on_voltages s d t x)
 unfolding on_voltages
-still_voltages s d t (Volts four) = still_temperature s d four t
-still_voltages s d t AllUnread = still_done _
+still_voltages s d t (Ok four) = still_temperature s d four t
+still_voltages s d t (Err e) = still_done _
 
-still_measuring : (s : ChannelSettings) (d : Detectors) (t : Temperature) → Still (measuring s d t)
+still_measuring : (s : ChannelSettings) (d : Detectors) (t : Option Float) → Still (measuring s d t)
 unfolding measuring
 still_measuring s d t = still_bind _ _ still_ads7924_all (still_voltages s d t)
 
@@ -115,10 +98,10 @@ module _
   where
     -- ---- the calls that are one event
 
-    event_ends : (k : RfChannel → Told → Answer) (q : Levels) (x : Step) → Walked I q x → Keeps q (after_event (λ c told. done (Live c (k c told))) x) (Ends I)
+    event_ends : (k : RfChannel → Told → Answer) (q : Levels) (x : Result (RfChannel × Told) Cause) → Walked I q x → Keeps q (after_event (λ c told. done (Live c (k c told))) x) (Ends I)
     unfolding Walked after_event Ends
-    event_ends k q (Went c told) h = keeps_done _ h
-    event_ends k q (Stops cause) h = keeps_halting I q cause
+    event_ends k q (Ok (c, told)) h = keeps_done _ h
+    event_ends k q (Err cause) h = keeps_halting I q cause
 
     keeps_answering : (answer : Told → Answer) (e : Events) (p : Levels) (c : RfChannel) → I p c → Keeps p (answering answer e c g) (Ends I)
     unfolding answering
@@ -130,44 +113,44 @@ module _
 
     -- ---- the update
 
-    unfoldable OnWay : Levels → Stage → Type 0
-    OnWay q (Going c) = I q c
-    OnWay q (Stopped cause) = Unit
+    unfoldable OnWay : Levels → Result RfChannel Cause → Type 0
+    OnWay q (Ok c) = I q c
+    OnWay q (Err cause) = Unit
 
-    staged : (q : Levels) (x : Step) → Walked I q x → OnWay q (stage_of x)
+    staged : (q : Levels) (x : Result (RfChannel × Told) Cause) → Walked I q x → OnWay q (stage_of x)
     unfolding Walked OnWay
-    staged q (Went c told) h = h
-    staged q (Stops cause) h = tt
+    staged q (Ok (c, told)) h = h
+    staged q (Err cause) h = tt
 
     keeps_raising : (e : Events) (p : Levels) (c : RfChannel) → I p c → Keeps p (raising c e g) OnWay
     unfolding raising
     keeps_raising e p c h = keeps_mapped _ _ (events p c e h) staged
 
-    on_check_lem : (p : Levels) (c : RfChannel) (x : Check) → I p c → Keeps p (on_check c g x) OnWay
+    on_check_lem : (p : Levels) (c : RfChannel) (x : Result (Option ChannelFault) Cause) → I p c → Keeps p (on_check c g x) OnWay
     unfolding on_check OnWay
-    on_check_lem p c Fine h = keeps_done _ h
-    on_check_lem p c (Found fault) h = keeps_raising (E.Fault fault) p c h
-    on_check_lem p c Failed h = keeps_done _ tt
+    on_check_lem p c (P.Ok None) h = keeps_done _ h
+    on_check_lem p c (P.Ok (Some fault)) h = keeps_raising (E.Fault fault) p c h
+    on_check_lem p c (P.Err cause) h = keeps_done _ tt
 
-    on_overdrive_lem : (p : Levels) (c : RfChannel) (x : Overdrive) → I p c → Keeps p (on_overdrive c g x) OnWay
+    on_overdrive_lem : (p : Levels) (c : RfChannel) (x : Option Interlock) → I p c → Keeps p (on_overdrive c g x) OnWay
     unfolding on_overdrive OnWay
-    on_overdrive_lem p c Quiet h = keeps_done _ h
-    on_overdrive_lem p c (Source interlock) h = keeps_raising (E.Trip interlock) p c h
+    on_overdrive_lem p c None h = keeps_done _ h
+    on_overdrive_lem p c (Some interlock) h = keeps_raising (E.Trip interlock) p c h
 
-    on_power_lem : (p : Levels) (c : RfChannel) (x : Power) → I p c → Keeps p (on_power c g x) OnWay
+    on_power_lem : (p : Levels) (c : RfChannel) (x : Result Float Failed) → I p c → Keeps p (on_power c g x) OnWay
     unfolding on_power OnWay
-    on_power_lem p c (Dbm power) h = on_overdrive_lem p c (overdrive_source power g) h
-    on_power_lem p c Unheard h = keeps_done _ tt
+    on_power_lem p c (Ok power) h = on_overdrive_lem p c (overdrive_source power g) h
+    on_power_lem p c (Err e) h = keeps_done _ tt
 
-    trip_tested : (b : Bool) (p : Levels) (c : RfChannel) → I p c → Keeps p (cond b (bind (get_input_power c.settings) (on_power c g)) (done (Going c))) OnWay
+    trip_tested : (b : Bool) (p : Levels) (c : RfChannel) → I p c → Keeps p (cond b (bind (get_input_power c.settings) (on_power c g)) (done (Ok c))) OnWay
     unfolding OnWay
     trip_tested true p c h = keeps_bind _ _ (still_input c.settings p) (λ q x e. rw e (on_power_lem p c x h))
     trip_tested false p c h = keeps_done _ h
 
-    on_stage : (k : RfChannel → Run Outcome) → ((q : Levels) (c : RfChannel) → I q c → Keeps q (k c) (Ends I)) → (q : Levels) (x : Stage) → OnWay q x → Keeps q (after_stage k x) (Ends I)
+    on_stage : (k : RfChannel → Run Outcome) → ((q : Levels) (c : RfChannel) → I q c → Keeps q (k c) (Ends I)) → (q : Levels) (x : Result RfChannel Cause) → OnWay q x → Keeps q (after_stage k x) (Ends I)
     unfolding after_stage OnWay
-    on_stage k f q (Going c) h = f q c h
-    on_stage k f q (Stopped cause) h = keeps_halting I q cause
+    on_stage k f q (Ok c) h = f q c h
+    on_stage k f q (Err cause) h = keeps_halting I q cause
 
     keeps_finishing : (p : Levels) (c : RfChannel) → I p c → Keeps p (finishing g c) (Ends I)
     unfolding finishing
@@ -181,24 +164,24 @@ module _
 
     -- ---- settings
 
-    unfoldable Took : Levels → Applied → Type 0
+    unfoldable Took : Levels → Result RfChannel (RfChannel × Wrong) → Type 0
     Took q (Ok c) = I q c
-    Took q (Err c wrong) = I q c
+    Took q (Err (c, wrong)) = I q c
 
-    took : (p : Levels) (c : RfChannel) → I p c → (q : Levels) (w : Written) → q ≡ p → Took q (applied_to c w)
+    took : (p : Levels) (c : RfChannel) → I p c → (q : Levels) (w : Result (Unit {0}) Wrong) → q ≡ p → Took q (applied_to c w)
     unfolding Took
-    took p c h q Wrote e = rw e h
-    took p c h q (NotWritten wrong) e = rw e h
+    took p c h q (Ok tt) e = rw e h
+    took p c h q (Err wrong) e = rw e h
 
     keeps_applying : (b : Bool) (p : Levels) (c : RfChannel) (s : ChannelSettings) (due : Changes) → I p c → Keeps p (cond b (done (Ok c)) (mapped (applied_to (stored c s)) (write_changes due s))) Took
     unfolding Took
     keeps_applying true p c s due h = keeps_done _ h
     keeps_applying false p c s due h = keeps_mapped _ _ (still_changes due s p) (took p (stored c s) (stores p c s h))
 
-    on_follow_lem : (p : Levels) (c : RfChannel) (x : Follow) → I p c → Keeps p (on_follow c g x) (Ends I)
+    on_follow_lem : (p : Levels) (c : RfChannel) (x : Option Events) → I p c → Keeps p (on_follow c g x) (Ends I)
     unfolding on_follow Ends
-    on_follow_lem p c Nothing h = keeps_done _ h
-    on_follow_lem p c (Raise e) h = keeps_quietly e p c h
+    on_follow_lem p c None h = keeps_done _ h
+    on_follow_lem p c (Some e) h = keeps_quietly e p c h
 
     on_wrong : (p : Levels) (c : RfChannel) (wrong : Wrong) → I p c → Keeps p (refusing c wrong) (Ends I)
     unfolding refusing Ends
@@ -206,10 +189,10 @@ module _
     on_wrong p c Chip h = keeps_done _ h
     on_wrong p c Bus h = keeps_halting I p _
 
-    on_applied_lem : (wanted : ChannelState) (q : Levels) (x : Applied) → Took q x → Keeps q (on_applied wanted g x) (Ends I)
+    on_applied_lem : (wanted : ChannelState) (q : Levels) (x : Result RfChannel (RfChannel × Wrong)) → Took q x → Keeps q (on_applied wanted g x) (Ends I)
     unfolding on_applied following Took
     on_applied_lem wanted q (Ok c) h = on_follow_lem q c (event_of c.state wanted) h
-    on_applied_lem wanted q (Err c wrong) h = on_wrong q c wrong h
+    on_applied_lem wanted q (Err (c, wrong)) h = on_wrong q c wrong h
 
     keeps_settings : (p : Levels) (c : RfChannel) (s : ChannelSettings) → I p c → Keeps p (handle_settings c s g) (Ends I)
     unfolding handle_settings apply_settings
@@ -217,10 +200,10 @@ module _
 
     -- ---- the status
 
-    on_measures_lem : (p : Levels) (c : RfChannel) → I p c → (q : Levels) (x : Measures) → q ≡ p → Keeps q (on_measures c g x) (Ends I)
+    on_measures_lem : (p : Levels) (c : RfChannel) → I p c → (q : Levels) (x : Result Numbers Cause) → q ≡ p → Keeps q (on_measures c g x) (Ends I)
     unfolding on_measures Ends
-    on_measures_lem p c h q (All n) e = rw e (keeps_done _ h)
-    on_measures_lem p c h q (NotAll cause) e = keeps_halting I q cause
+    on_measures_lem p c h q (Ok n) e = rw e (keeps_done _ h)
+    on_measures_lem p c h q (Err cause) e = keeps_halting I q cause
 
     keeps_status : (p : Levels) (c : RfChannel) (d : Detectors) → I p c → Keeps p (getting_status c d g) (Ends I)
     unfolding getting_status

@@ -1,10 +1,9 @@
 -- The chips leave the pins alone: no driver's run has a row of a pin. Assumes nothing.
+use Rattle.std.specs.Prelude.{Option, Some, None}
 use lib.Ieee.{Float}
 use Prim.Native.Nat.{ℕ}
 use mathlib.Core.Bool.{Bool, true, false, cond}
 use Rattle.bus.specs.Run.{Run}
-use Rattle.conversions.specs.declared.Conversion.{Conversion}
-use Rattle.conversions.specs.declared.Conversion.TheVariants.{Code, Range}
 use Rattle.conversions.specs.Codes.{dac7571_code}
 use Rattle.interlock.specs.Level.{level_code}
 use Rattle.mcp3221.specs.Voltage as Mcp3221
@@ -24,9 +23,9 @@ pub still_mcp3221 : (supply : Float) → Still (Mcp3221.get_voltage supply)
 unfolding Mcp3221.get_voltage
 still_mcp3221 supply = still_try _ _ _ (λ d. still_done _)
 
-dac7571_code_lem : (x : Conversion) → Still (Dac7571.send_code x)
-dac7571_code_lem (Code code) = still_try _ _ _ (λ d. still_done _)
-dac7571_code_lem Range = still_done _
+dac7571_code_lem : (x : Option ℕ) → Still (Dac7571.send_code x)
+dac7571_code_lem (Some code) = still_try _ _ _ (λ d. still_done _)
+dac7571_code_lem None = still_done _
 
 pub still_dac7571 : (v : Float) → Still (Dac7571.set_voltage v)
 unfolding Dac7571.set_voltage
@@ -36,9 +35,9 @@ pub still_ad5627_opening : Still Ad5627Opening.opening
 unfolding Ad5627Opening.opening
 still_ad5627_opening = still_try _ _ _ (λ d. still_try _ _ _ (λ e. still_done _))
 
-pub still_ad5627 : (dac : Dac) (x : Conversion) → Still (Ad5627.send_code dac x)
-still_ad5627 dac (Code code) = still_try _ _ _ (λ d. still_done _)
-still_ad5627 dac Range = still_done _
+pub still_ad5627 : (dac : Dac) (x : Option ℕ) → Still (Ad5627.send_code dac x)
+still_ad5627 dac (Some code) = still_try _ _ _ (λ d. still_done _)
+still_ad5627 dac None = still_done _
 
 pub still_ads7924_opening : Still Ads7924.opening
 unfolding Ads7924.opening

@@ -5,12 +5,14 @@ use mathlib.Core.Bool.{Bool, true, false, cond, ◌&&◌}
 use mathlib.Core.List.{List}
 use lib.Dec.{T, eqb, eqb→eq}
 use lib.Ieee.{eq}
+use Rattle.std.specs.Prelude.{Option, None, Some, Result, Ok, Err}
 use Rattle.bus.specs.Run.{done, bind, mapped}
 use Rattle.rf_channel.specs.declared.Action.TheVariants.{HandleFault}
 use Rattle.rf_channel.specs.declared.ChannelFault.{ChannelFault}
 use Rattle.rf_channel.specs.declared.ChannelSettings.{ChannelSettings}
 use Rattle.rf_channel.specs.declared.ChannelState.{ChannelState}
 use Rattle.rf_channel.specs.declared.ChannelState.TheVariants as W
+use Rattle.rf_channel.specs.declared.Events.{Events}
 use Rattle.rf_channel.specs.declared.Events.TheVariants as E
 use Rattle.rf_channel.specs.declared.Plan.TheVariants.{Go}
 use Rattle.rf_channel.specs.declared.RfChannel.{RfChannel}
@@ -19,15 +21,10 @@ use Rattle.rf_channel.specs.declared.States.TheVariants as S
 use Rattle.rf_plan.specs.Table.{table}
 use Rattle.rf_plan.specs.Plan.{fault_of, planned}
 use Rattle.rf_plan.proofs.Whole.{both}
-use Rattle.rf_changes.specs.declared.Follow.{Follow}
-use Rattle.rf_changes.specs.declared.Follow.TheVariants.{Nothing, Raise}
 use Rattle.rf_changes.specs.Changes.{state_number, same_state, same_line, same, changes_of, stored, event_of}
-use Rattle.rf_settings.specs.declared.Applied.{Applied}
-use Rattle.rf_settings.specs.declared.Applied.TheVariants.{Ok, Err}
-use Rattle.rf_settings.specs.declared.Written.{Written}
-use Rattle.rf_settings.specs.declared.Written.TheVariants.{Fine, Failed}
 use Rattle.rf_settings.specs.Settings.{write_changes, applied_to, apply_settings}
 use Rattle.rf_theorems.specs.Events.{Moves, Unwrapped, EveryUnwrapMoves, WantedIsHeld, FaultBlocks, TripTrips}
+use Rattle.rf_settings.specs.declared.Wrong.{Wrong}
 
 -- ---- a fault, and a trip
 
@@ -51,9 +48,9 @@ trip_trips c tick watchdog i h = rw h
 -- ---- the events of settings
 
 module _ (c : RfChannel) (tick : ℕ) (watchdog : Bool) where
-  unfoldable Follows : Follow → Type 0
-  Follows Nothing = Unit
-  Follows (Raise e) = (e ≡ E.Disable → ⊥) → Moves (planned table c e tick watchdog)
+  unfoldable Follows : Option Events → Type 0
+  Follows None = Unit
+  Follows (Some e) = (e ≡ E.Disable → ⊥) → Moves (planned table c e tick watchdog)
 
   follows : (s : States) (w : ChannelState) → c.state ≡ s → c.settings.state ≡ w → Follows (event_of s w)
   unfolding Follows Moves planned table
@@ -110,14 +107,14 @@ same_state_lem a b t =
     (same_line a.input_power_transform b.input_power_transform) (same_line a.output_power_transform b.output_power_transform) (same_line a.reflected_power_transform b.reflected_power_transform) t)
 
 module _ (c : RfChannel) (s : ChannelSettings) where
-  unfoldable Holds : Applied → Type 0
+  unfoldable Holds : Result RfChannel (RfChannel × Wrong) → Type 0
   Holds (Ok c') = c'.settings.state ≡ s.state
-  Holds (Err c' wrong) = Unit
+  Holds (Err (c', wrong)) = Unit
 
-  stored_holds : (w : Written) → Holds (applied_to (stored c s) w)
+  stored_holds : (w : Result (Unit {0}) Wrong) → Holds (applied_to (stored c s) w)
   unfolding Holds
-  stored_holds Fine = refl
-  stored_holds (Failed wrong) = tt
+  stored_holds (Ok tt) = refl
+  stored_holds (Err wrong) = tt
 
   applied_holds : (b : Bool) → (T b → c.settings.state ≡ s.state) → (rs : List ℕ) (slot taken : ℕ) → Holds (cond b (done (Ok c)) (mapped (applied_to (stored c s)) (write_changes (changes_of c.settings s) s)) rs slot taken).ans
   unfolding Holds done bind mapped

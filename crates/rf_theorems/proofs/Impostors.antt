@@ -1,4 +1,5 @@
 -- Two impostors: a channel that takes new settings and only answers falls to the rows that the definition has, by one change of settings that is worked out (the settings are those of document 01's trace); a channel that never moves falls to the table. Assumes nothing.
+use Rattle.std.specs.Prelude.{Some}
 use Prim.Native.Nat.{ℕ}
 use native.Mathlib.Omega.{arith}
 use mathlib.Core.Path.{◌≡◌, refl, ap, sym, subst, ◌∙◌}
@@ -23,7 +24,6 @@ use Rattle.rf_machine.specs.Hardware.{on_did, pin, pinch_off, start_powerup, har
 use Rattle.rf_machine.specs.Event.{carry, process_event}
 use Rattle.rf_devices.specs.Devices.{apply_output}
 use Rattle.rf_call.specs.declared.Givens.{Givens}
-use Rattle.rf_call.specs.declared.Temperature.TheVariants.{Celsius}
 use Rattle.rf_call.specs.Calls.{after_event, answering, quietly}
 use Rattle.rf_tests.specs.Tests.{is_blocked}
 use Rattle.rf_start.specs.Start.{fresh}
@@ -50,7 +50,7 @@ abbrev second : ChannelSettings
 second = settings (of_bits binary32 0x4160_0000)
 
 abbrev givens : Givens
-givens = record { tick = 0; alert = true; output_overdrive = false; reflected_overdrive = false; watchdog = false; temperature = Celsius (of_bits binary32 0x41c8_0000) }
+givens = record { tick = 0; alert = true; output_overdrive = false; reflected_overdrive = false; watchdog = false; temperature = Some (of_bits binary32 0x41c8_0000) }
 
 -- replies that are all acknowledged, and an empty log of twenty rows: the shortest that the entry lets in
 abbrev replies : List ℕ

@@ -1,17 +1,17 @@
 -- A judgement on runs: from the levels p, the run m ends in levels and with an answer that satisfy Q, and all its rows are of its own slot. Rules for the pieces of a run.
 -- Assumes nothing.
+use Rattle.std.specs.Prelude.{Result, Ok, Err}
 use Prim.Native.Nat.{ℕ}
 use mathlib.Core.Path.{◌≡◌, refl}
 use mathlib.Core.List.{List, [], ◌∷◌, ◌++◌}
 use Rattle.bus.specs.declared.Eight.{Eight}
-use Rattle.bus.specs.declared.Got.{Got}
-use Rattle.bus.specs.declared.Got.TheVariants.{Acked, Failed}
 use Rattle.bus.specs.declared.Note.{Note}
 use Rattle.bus.specs.declared.Note.TheVariants.{SignalOn, EnablePower, Wait}
 use Rattle.bus.specs.declared.Transfer.{Transfer}
 use Rattle.bus.specs.Rows.{Row, noted}
 use Rattle.bus.specs.Run.{Ran, Run, done, bind, mapped, note, transfer, on_got}
 use Rattle.rf_theorems.specs.Pins.{Levels, after, levels_after, Own}
+use Rattle.bus.specs.declared.Failed.{Failed}
 
 pub record Kept {A : Type 0} (slot : ℕ) (p : Levels) (Q : Levels → A → Type 0) (x : Ran A) : Type 0 where
   pub holds : Q (levels_after p x.rows) x.ans
@@ -62,7 +62,7 @@ keeps_note (SignalOn on) h rs slot taken = record { holds = h; own = (refl, tt) 
 keeps_note (EnablePower on) h rs slot taken = record { holds = h; own = (refl, tt) }
 keeps_note (Wait time) h rs slot taken = record { holds = h; own = (refl, tt) }
 
-pub keeps_transfer : {p : Levels} {Q : Levels → Got → Type 0} (t : Transfer) → ((g : Got) → Q p g) → Keeps p (transfer t) Q
+pub keeps_transfer : {p : Levels} {Q : Levels → Result Eight Failed → Type 0} (t : Transfer) → ((g : Result Eight Failed) → Q p g) → Keeps p (transfer t) Q
 unfolding transfer levels_after Own
 keeps_transfer t h rs slot taken = record { holds = h _; own = (refl, tt) }
 
@@ -89,10 +89,10 @@ still_wait time p = keeps_note (Wait time) refl
 pub still_transfer : (t : Transfer) → Still (transfer t)
 still_transfer t p = keeps_transfer t (λ g. refl)
 
-still_got : {A : Type 0} (a : A) (k : Eight → Run A) → ((d : Eight) → Still (k d)) → (g : Got) → Still (on_got a k g)
+still_got : {A : Type 0} (a : A) (k : Eight → Run A) → ((d : Eight) → Still (k d)) → (g : Result Eight Failed) → Still (on_got a k g)
 unfolding on_got
-still_got a k s (Acked d) = s d
-still_got a k s Failed = still_done a
+still_got a k s (Ok d) = s d
+still_got a k s (Err e) = still_done a
 
 pub still_try : {A : Type 0} (t : Transfer) (a : A) (k : Eight → Run A) → ((d : Eight) → Still (k d)) → Still (bind (transfer t) (on_got a k))
 still_try t a k s = still_bind (transfer t) (on_got a k) (still_transfer t) (still_got a k s)

@@ -1,4 +1,5 @@
 -- The pin rule of one event: every line of the table leads from the levels of its state to those of its next state (one computed test), and an action's run leaves the pins at the action's levels. So an event keeps what a channel holds, what the rows say and what the state asks for the same. Assumes nothing.
+use Rattle.std.specs.Prelude.{Result, Ok, Err}
 use Prim.Native.Nat.{ℕ}
 use mathlib.Core.Path.{◌≡◌, refl, sym, ap, ◌∙◌}
 use mathlib.Core.Bool.{Bool, true, false, cond, ◌&&◌, beq}
@@ -23,15 +24,12 @@ use Rattle.rf_plan.specs.Whole.{IfAny}
 use Rattle.rf_plan.proofs.Whole.{both, same_shape, if_given, if_more, if_meant}
 use Rattle.rf_machine.specs.declared.Cause.{Cause}
 use Rattle.rf_machine.specs.declared.Cause.TheVariants.{Level}
-use Rattle.rf_machine.specs.declared.Effect.{Effect}
-use Rattle.rf_machine.specs.declared.Effect.TheVariants.{Did, Stop}
-use Rattle.rf_machine.specs.declared.Step.{Step}
-use Rattle.rf_machine.specs.declared.Step.TheVariants.{Went, Stopped}
 use Rattle.rf_machine.specs.Hardware.{on_did, ◌and_then◌, pin, pinch_off, apply_bias, enabled, start_powerup, reset_interlocks, disable_rf_switch, start_disable, enable_output, hardware}
 use Rattle.rf_machine.specs.Event.{signal_after, power_after, moved, arrived, carry, process_event}
 use Rattle.rf_theorems.specs.Pins.{Levels, signal_in, power_in, levels_in, held}
 use Rattle.rf_theorems.proofs.Keeps.{Keeps, Still, keeps_done, keeps_more, keeps_bind, keeps_mapped, keeps_note, still_mapped}
 use Rattle.rf_theorems.proofs.Chips.{still_dac7571, still_bias}
+use Rattle.rf_machine.specs.declared.Told.{Told}
 
 -- ---- one test over the table
 
@@ -108,28 +106,28 @@ plan_good c e tick watchdog right = planned_good c e tick watchdog right table t
 -- ---- an action's run
 
 -- work that was done leaves levels that satisfy P
-unfoldable pub IfDid : (Levels → Type 0) → Levels → Effect → Type 0
-IfDid P q Did = P q
-IfDid P q (Stop cause) = Unit
+unfoldable pub IfDid : (Levels → Type 0) → Levels → Result (Unit {0}) Cause → Type 0
+IfDid P q (Ok tt) = P q
+IfDid P q (Err cause) = Unit
 
 abbrev pub At : Levels → Levels → Type 0
 At p q = q ≡ p
 
-pub keeps_then : (P R : Levels → Type 0) (p : Levels) (m k : Run Effect) → Keeps p m (IfDid P) → ((q : Levels) → P q → Keeps q k (IfDid R)) → Keeps p (m and_then k) (IfDid R)
+pub keeps_then : (P R : Levels → Type 0) (p : Levels) (m k : Run (Result (Unit {0}) Cause)) → Keeps p m (IfDid P) → ((q : Levels) → P q → Keeps q k (IfDid R)) → Keeps p (m and_then k) (IfDid R)
 unfolding IfDid on_did
 keeps_then P R p m k x f = keeps_bind m (on_did k) x on
   where
-    on : (q : Levels) (e : Effect) → IfDid P q e → Keeps q (on_did k e) (IfDid R)
-    on q Did h = f q h
-    on q (Stop cause) h = keeps_done (Stop cause) tt
+    on : (q : Levels) (e : Result (Unit {0}) Cause) → IfDid P q e → Keeps q (on_did k e) (IfDid R)
+    on q (Ok tt) h = f q h
+    on q (Err cause) h = keeps_done (Err cause) tt
 
-pub still_did : (p : Levels) (m : Run Effect) → Still m → Keeps p m (IfDid (At p))
+pub still_did : (p : Levels) (m : Run (Result (Unit {0}) Cause)) → Still m → Keeps p m (IfDid (At p))
 unfolding IfDid
 still_did p m s = keeps_more (s p) on
   where
-    on : (q : Levels) (e : Effect) → q ≡ p → IfDid (At p) q e
-    on q Did h = h
-    on q (Stop cause) h = tt
+    on : (q : Levels) (e : Result (Unit {0}) Cause) → q ≡ p → IfDid (At p) q e
+    on q (Ok tt) h = h
+    on q (Err cause) h = tt
 
 pub keeps_pinch : (p : Levels) → Keeps p pinch_off (IfDid (At p))
 unfolding pinch_off
@@ -147,13 +145,13 @@ keeps_pause : (p : Levels) (time : ℕ) → Keeps p (pin (Wait time)) (IfDid (At
 unfolding pin IfDid
 keeps_pause p time = keeps_mapped _ _ (keeps_note {Q = λ q u. q ≡ p} (Wait time) refl) (λ q u e. e)
 
-did : (p : Levels) → Keeps p (done Did) (IfDid (At p))
+did : (p : Levels) → Keeps p (done (Ok tt)) (IfDid (At p))
 unfolding IfDid
-did p = keeps_done Did refl
+did p = keeps_done (Ok tt) refl
 
-stopped : (p : Levels) (P : Levels → Type 0) (cause : Cause) → Keeps p (done (Stop cause)) (IfDid P)
+stopped : (p : Levels) (P : Levels → Type 0) (cause : Cause) → Keeps p (done (Err cause)) (IfDid P)
 unfolding IfDid
-stopped p P cause = keeps_done (Stop cause) tt
+stopped p P cause = keeps_done (Err cause) tt
 
 -- the levels after an action
 abbrev pub acted : Action → Levels → Levels
@@ -186,7 +184,7 @@ keeps_enable : (s : ChannelSettings) (p : Levels) → Keeps p (enable_output s) 
 unfolding enable_output
 keeps_enable s p = on (lt (lowest s) s.output_interlock_threshold)
   where
-    on : (b : Bool) → Keeps p (cond b (mapped enabled (apply_bias s) and_then pin (SignalOn true)) (done (Stop Level))) (IfDid (At (record { signal = true; power = p.power })))
+    on : (b : Bool) → Keeps p (cond b (mapped enabled (apply_bias s) and_then pin (SignalOn true)) (done (Err Level))) (IfDid (At (record { signal = true; power = p.power })))
     on true = keeps_then (At p) (At (record { signal = true; power = p.power })) p (mapped enabled (apply_bias s)) (pin (SignalOn true)) (still_did p _ (still_mapped _ _ (still_bias s))) (λ q e. rw e (keeps_signal p true))
     on false = stopped p (At (record { signal = true; power = p.power })) Level
 
@@ -204,9 +202,9 @@ keeps_hardware DisableRfSwitch s p = keeps_switch p
 -- ---- an event
 
 -- an event that leaves a channel leaves one that satisfies I
-unfoldable pub Walked : (Levels → RfChannel → Type 0) → Levels → Step → Type 0
-Walked I q (Went c told) = I q c
-Walked I q (Stopped cause) = Unit
+unfoldable pub Walked : (Levels → RfChannel → Type 0) → Levels → Result (RfChannel × Told) Cause → Type 0
+Walked I q (Ok (c, told)) = I q c
+Walked I q (Err cause) = Unit
 
 -- what a plan leads to satisfies I
 unfoldable pub Leads : (Levels → RfChannel → Type 0) → Levels → RfChannel → Plan → Type 0
@@ -214,10 +212,10 @@ Leads I p c NoTransition = Unit
 Leads I p c GuardFalse = Unit
 Leads I p c (Go action state) = I (acted action p) (moved c action state)
 
-came : (I : Levels → RfChannel → Type 0) (p : Levels) (c : RfChannel) (action : Action) (state : States) → I (acted action p) (moved c action state) → (q : Levels) (e : Effect) → IfDid (At (acted action p)) q e → Walked I q (arrived c action state e)
+came : (I : Levels → RfChannel → Type 0) (p : Levels) (c : RfChannel) (action : Action) (state : States) → I (acted action p) (moved c action state) → (q : Levels) (e : Result (Unit {0}) Cause) → IfDid (At (acted action p)) q e → Walked I q (arrived c action state e)
 unfolding IfDid Walked
-came I p c action state i q Did h = rw h i
-came I p c action state i q (Stop cause) h = tt
+came I p c action state i q (Ok tt) h = rw h i
+came I p c action state i q (Err cause) h = tt
 
 pub keeps_carry : (I : Levels → RfChannel → Type 0) (p : Levels) (c : RfChannel) (plan : Plan) → Leads I p c plan → I p c → Keeps p (carry c plan) (Walked I)
 unfolding carry Leads Walked

@@ -1,12 +1,11 @@
 -- The start: both pins are low from its second row on, and nothing after that sets one high. Assumes nothing.
+use Rattle.std.specs.Prelude.{Result, Ok, Err}
 use mathlib.Core.Path.{◌≡◌, refl}
 use mathlib.Core.Bool.{Bool, false}
 use Rattle.bus.specs.declared.Note.TheVariants.{SignalOn, EnablePower}
 use Rattle.bus.specs.Run.{Run, done, bind}
 use Rattle.rf_channel.specs.declared.ChannelSettings.{ChannelSettings}
 use Rattle.rf_machine.specs.declared.Cause.{Cause}
-use Rattle.rf_machine.specs.declared.Effect.{Effect}
-use Rattle.rf_machine.specs.declared.Effect.TheVariants.{Did, Stop}
 use Rattle.rf_machine.specs.Hardware.{on_did, ◌and_then◌, pin, pinch_off}
 use Rattle.rf_call.specs.declared.Answer.TheVariants.{Done}
 use Rattle.rf_call.specs.declared.Report.TheVariants.{Plain}
@@ -28,12 +27,12 @@ Starts s q (Live c answer) = (q ≡ low) × (c ≡ fresh s)
 Starts s q Absent = q ≡ low
 Starts s q (Halted cause) = q ≡ low
 
-still_on_did : (k : Run Effect) → Still k → (e : Effect) → Still (on_did k e)
+still_on_did : (k : Run (Result (Unit {0}) Cause)) → Still k → (e : Result (Unit {0}) Cause) → Still (on_did k e)
 unfolding on_did
-still_on_did k s Did = s
-still_on_did k s (Stop cause) = still_done _
+still_on_did k s (Ok tt) = s
+still_on_did k s (Err cause) = still_done _
 
-still_then : (m k : Run Effect) → Still m → Still k → Still (m and_then k)
+still_then : (m k : Run (Result (Unit {0}) Cause)) → Still m → Still k → Still (m and_then k)
 still_then m k s t = still_bind m (on_did k) s (still_on_did k t)
 
 keeps_beginning : (p : Levels) → Keeps p beginning (IfDid (At low))
@@ -73,10 +72,10 @@ halts s p cause = keeps_more (keeps_halting (λ q c. ⊥) p cause) turn
     turn q Absent h = absurd h
     turn q (Halted cause) h = h
 
-settled : (s : ChannelSettings) (q : Levels) (e : Effect) → q ≡ low → Keeps q (or_halt (done (Live (fresh s) (Done Plain))) e) (Starts s)
+settled : (s : ChannelSettings) (q : Levels) (e : Result (Unit {0}) Cause) → q ≡ low → Keeps q (or_halt (done (Live (fresh s) (Done Plain))) e) (Starts s)
 unfolding or_halt Starts
-settled s q Did h = keeps_done _ (h, refl)
-settled s q (Stop cause) h = halts s q cause
+settled s q (Ok tt) h = keeps_done _ (h, refl)
+settled s q (Err cause) h = halts s q cause
 
 keeps_settling : (s : ChannelSettings) → Keeps low (settling s) (Starts s)
 unfolding settling
@@ -87,10 +86,10 @@ unfolding if_present Starts
 if_present_lem s q Present h = rw h (keeps_settling s)
 if_present_lem s q NotThere h = keeps_done _ h
 
-prepared : (s : ChannelSettings) (present : Bool) (q : Levels) (e : Effect) → IfDid (At low) q e → Keeps q (or_halt (bind (module_there present) (if_present (settling s))) e) (Starts s)
+prepared : (s : ChannelSettings) (present : Bool) (q : Levels) (e : Result (Unit {0}) Cause) → IfDid (At low) q e → Keeps q (or_halt (bind (module_there present) (if_present (settling s))) e) (Starts s)
 unfolding or_halt IfDid
-prepared s present q Did h = rw h (keeps_bind _ _ (still_module present low) (if_present_lem s))
-prepared s present q (Stop cause) h = halts s q cause
+prepared s present q (Ok tt) h = rw h (keeps_bind _ _ (still_module present low) (if_present_lem s))
+prepared s present q (Err cause) h = halts s q cause
 
 pub keeps_starting : (p : Levels) (s : ChannelSettings) (present : Bool) → Keeps p (starting s present) (Starts s)
 unfolding starting

@@ -1,4 +1,5 @@
 -- No trip test after a fault in the same update: where the fault test finds a fault, the update is the fault's event and then the Update event. Assumes nothing.
+use Rattle.std.specs.Prelude.{Result, Ok, Err}
 use Prim.Native.Nat.{ℕ}
 use mathlib.Core.Path.{◌≡◌, refl}
 use mathlib.Core.List.{List}
@@ -8,27 +9,25 @@ use Rattle.rf_channel.specs.declared.RfChannel.{RfChannel}
 use Rattle.rf_channel.specs.declared.States.TheVariants.{Blocked}
 use Rattle.rf_channel.specs.declared.Action.TheVariants.{HandleFault}
 use Rattle.rf_plan.specs.Plan.{fault_of}
-use Rattle.rf_machine.specs.declared.Effect.{Effect}
-use Rattle.rf_machine.specs.declared.Effect.TheVariants.{Did, Stop}
 use Rattle.rf_machine.specs.Hardware.{hardware}
 use Rattle.rf_machine.specs.Event.{arrived, carry, process_event}
 use Rattle.rf_call.specs.declared.Givens.{Givens}
-use Rattle.rf_update.specs.declared.Stage.TheVariants.{Going}
 use Rattle.rf_update.specs.Update.{stage_of, raising, on_check, fault_stage, trip_stage, after_stage, finishing, updating}
 use Rattle.rf_theorems.specs.Trips.{NoTripAfterFault}
 use Rattle.rf_theorems.proofs.Events.{fault_blocks}
+use Rattle.rf_machine.specs.declared.Cause.{Cause}
 
 -- a blocked channel is not read
-pub blocked_unread : (c : RfChannel) (g : Givens) (f : ChannelFault) → c.state ≡ Blocked f → trip_stage c g ≡ done (Going c)
+pub blocked_unread : (c : RfChannel) (g : Givens) (f : ChannelFault) → c.state ≡ Blocked f → trip_stage c g ≡ done (Ok c)
 unfolding trip_stage
 blocked_unread c g f h = rw h
 
-after_fault : (c : RfChannel) (g : Givens) (f : ChannelFault) (e : Effect) (rs : List ℕ) (slot taken : ℕ)
+after_fault : (c : RfChannel) (g : Givens) (f : ChannelFault) (e : Result (Unit {0}) Cause) (rs : List ℕ) (slot taken : ℕ)
     → after_stage (λ x. bind (trip_stage x g) (after_stage (finishing g))) (stage_of (arrived c HandleFault (Blocked f) e)) rs slot taken
     ≡ after_stage (finishing g) (stage_of (arrived c HandleFault (Blocked f) e)) rs slot taken
 unfolding after_stage trip_stage bind done
-after_fault c g f Did rs slot taken = refl
-after_fault c g f (Stop cause) rs slot taken = refl
+after_fault c g f (Ok tt) rs slot taken = refl
+after_fault c g f (Err cause) rs slot taken = refl
 
 -- two runs that go on in the same way from where the first ends
 bind_same : {A B : Type 0} (m : Run A) (k k' : A → Run B) (rs : List ℕ) (slot taken : ℕ)

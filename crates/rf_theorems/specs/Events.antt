@@ -1,5 +1,5 @@
 -- Where the original unwraps the result of an event, the table has a line for it and the line's guard holds. Definitions only.
-use Rattle.std.specs.Prelude.{ℕ, ◌≡◌, Bool, List}
+use Rattle.std.specs.Prelude.{ℕ, ◌≡◌, Bool, List, Some, Ok}
 use Rattle.rf_channel.specs.declared.Action.TheVariants.{HandleFault, HandleTrip}
 use Rattle.rf_channel.specs.declared.ChannelFault.{ChannelFault}
 use Rattle.rf_channel.specs.declared.ChannelSettings.{ChannelSettings}
@@ -12,9 +12,7 @@ use Rattle.rf_channel.specs.declared.RfChannel.{RfChannel}
 use Rattle.rf_channel.specs.declared.States.TheVariants as S
 use Rattle.rf_plan.specs.Table.{table}
 use Rattle.rf_plan.specs.Plan.{fault_of, planned}
-use Rattle.rf_changes.specs.declared.Follow.TheVariants.{Raise}
 use Rattle.rf_changes.specs.Changes.{event_of}
-use Rattle.rf_settings.specs.declared.Applied.TheVariants.{Ok}
 use Rattle.rf_settings.specs.Settings.{apply_settings}
 
 -- a transition: the event is listed, and its guard holds
@@ -27,7 +25,7 @@ Moves (Go action state) = Unit
 pub record Unwrapped (c : RfChannel) (tick : ℕ) (watchdog : Bool) : Type 0 where
   pub fault : (f : ChannelFault) → Moves (planned table c (E.Fault f) tick watchdog)
   pub trip : (i : Interlock) → c.state ≡ S.Enabled → Moves (planned table c (E.Trip i) tick watchdog)
-  pub settings : (e : Events) → event_of c.state c.settings.state ≡ Raise e → (e ≡ E.Disable → ⊥) → Moves (planned table c e tick watchdog)
+  pub settings : (e : Events) → event_of c.state c.settings.state ≡ Some e → (e ≡ E.Disable → ⊥) → Moves (planned table c e tick watchdog)
 
 abbrev pub EveryUnwrapMoves : Type 0
 EveryUnwrapMoves = (c : RfChannel) (tick : ℕ) (watchdog : Bool) → Unwrapped c tick watchdog

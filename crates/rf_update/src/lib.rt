@@ -2,189 +2,88 @@
 #![tactic(auto)]
 
 ghost use Rattle.std.specs.Prelude.{◌≡◌};
-ghost use Rattle.bus.specs.Run.{Does, Room};
-ghost use Rattle.rf_update.specs.Update.{stage_of, raising, fault_stage, trip_stage, finishing, updating};
+ghost use Rattle.bus.specs.Run.{Runs, HasRoom};
+ghost use Rattle.rf_update.specs.Update.{raising, fault_stage, trip_stage, finishing, updating};
 
-use bus::Cursor;
-use rf_call::{Answer, Ended, Givens, Report};
+use bus::Bus;
+use rf_call::{Answer, Givens, Outcome, Report};
 use rf_channel::{Events, RfChannel};
-use rf_devices::Power;
-use rf_machine::{Cause, Step};
-use rf_tests::{Check, Overdrive};
+use rf_machine::Cause;
 
-// A part of the update leaves the channel, or the channel has to halt.
-#[derive(Clone, Copy)]
-pub enum Stage {
-    Going(RfChannel),
-    Stopped(Cause),
-}
-
-#[derive(Clone, Copy)]
-pub struct Staged {
-    pub stage: Stage,
-    pub next: Cursor,
-}
-
-fn going(channel: RfChannel, at: Cursor) -> Staged
-    ensures { (result.stage ≡ Stage.Going channel) × (result.next ≡ at) }
-{
-    let stage = Stage::Going(channel);
-    Staged { stage, next: at }
-}
-
-fn stopped(cause: Cause, at: Cursor) -> Staged
-    ensures { (result.stage ≡ Stage.Stopped cause) × (result.next ≡ at) }
-{
-    let stage = Stage::Stopped(cause);
-    Staged { stage, next: at }
-}
-
-// What an event leaves. The table has a line for every fault, and for every trip of an enabled channel.
-fn stage_of(step: Step) -> Stage
-    ensures { result ≡ stage_of step }
-{
-    match step {
-        Step::Went(channel, _) => Stage::Going(channel),
-        Step::Stopped(cause) => Stage::Stopped(cause),
-    }
-}
-
-// An event within the update.
+// An event within the update. The table has a line for every fault, and for every trip of an enabled channel.
 fn raise(
-    log: &mut [u8],
-    replies: &[u8],
-    at: Cursor,
+    bus: &mut Bus,
     channel: RfChannel,
     event: Events,
     givens: Givens,
-) -> Staged
-    requires { Room at 3 1 log.old replies.now }
-    ensures { Does (raising channel event givens) replies.now log.old at 3 1 log.new result.next result.stage }
+) -> Result<RfChannel, Cause>
+    requires { HasRoom bus.old 3 1 }
+    ensures lent { bus.new.log.ghost_name ≡ bus.old.log.ghost_name }
+    ensures run { Runs (raising channel event givens) bus.old 3 1 bus.new result }
 {
-    let processed = rf_machine::process_event(
-        log,
-        replies,
-        at,
-        channel,
-        event,
-        givens.tick,
-        givens.watchdog,
-    );
-    let step = processed.step;
-    let next = processed.next;
-    let stage = stage_of(step);
-    Staged { stage, next }
+    match rf_machine::process_event(bus, channel, event, givens.tick, givens.watchdog) {
+        Ok((channel, _)) => Ok(channel),
+        Err(cause) => Err(cause),
+    }
 }
 
-fn fault_stage(
-    log: &mut [u8],
-    replies: &[u8],
-    at: Cursor,
-    channel: RfChannel,
-    givens: Givens,
-) -> Staged
-    requires { Room at 3 1 log.old replies.now }
-    ensures { Does (fault_stage channel givens) replies.now log.old at 3 1 log.new result.next result.stage }
+fn fault_stage(bus: &mut Bus, channel: RfChannel, givens: Givens) -> Result<RfChannel, Cause>
+    requires { HasRoom bus.old 3 1 }
+    ensures lent { bus.new.log.ghost_name ≡ bus.old.log.ghost_name }
+    ensures run { Runs (fault_stage channel givens) bus.old 3 1 bus.new result }
 {
-    let check = rf_tests::check_faults(givens);
-    match check {
-        Check::Fine => going(channel, at),
-        Check::Found(fault) => {
-            let event = Events::Fault(fault);
-            raise(log, replies, at, channel, event, givens)
-        }
-        Check::Failed => {
-            let cause = Cause::Temperature;
-            stopped(cause, at)
-        }
+    match rf_tests::check_faults(givens) {
+        Ok(None) => Ok(channel),
+        Ok(Some(fault)) => raise(bus, channel, Events::Fault(fault), givens),
+        Err(cause) => Err(cause),
     }
 }
 
 // A channel that is not enabled is not read: a fault has taken it out of Enabled.
-fn trip_stage(
-    log: &mut [u8],
-    replies: &[u8],
-    at: Cursor,
-    channel: RfChannel,
-    givens: Givens,
-) -> Staged
-    requires { Room at 4 2 log.old replies.now }
-    ensures { Does (trip_stage channel givens) replies.now log.old at 4 2 log.new result.next result.stage }
+fn trip_stage(bus: &mut Bus, channel: RfChannel, givens: Givens) -> Result<RfChannel, Cause>
+    requires { HasRoom bus.old 4 2 }
+    ensures lent { bus.new.log.ghost_name ≡ bus.old.log.ghost_name }
+    ensures run { Runs (trip_stage channel givens) bus.old 4 2 bus.new result }
 {
-    let state = channel.state;
-    let enabled = rf_tests::state_is_enabled(state);
+    let enabled = rf_tests::state_is_enabled(channel.state);
     if enabled {
-        let settings = channel.settings;
-        let sensed = rf_devices::get_input_power(log, replies, at, settings);
-        let power = sensed.power;
-        let next = sensed.next;
-        let Power::Dbm(dbm) = power else {
-            let cause = Cause::Bus;
-            return stopped(cause, next);
-        };
-        let overdrive = rf_tests::get_overdrive_source(dbm, givens);
-        let Overdrive::Source(source) = overdrive else {
-            return going(channel, next);
-        };
-        let event = Events::Trip(source);
-        raise(log, replies, next, channel, event, givens)
+        let dbm = rf_devices::get_input_power(bus, channel.settings)?;
+        match rf_tests::get_overdrive_source(dbm, givens) {
+            None => Ok(channel),
+            Some(source) => raise(bus, channel, Events::Trip(source), givens),
+        }
     } else {
-        going(channel, at)
+        Ok(channel)
     }
 }
 
 // What is left when faults and trips are dealt with: the Update event, and the front panel's lights.
-fn finish(log: &mut [u8], replies: &[u8], at: Cursor, channel: RfChannel, givens: Givens) -> Ended
-    requires { Room at 5 1 log.old replies.now }
-    ensures { Does (finishing givens channel) replies.now log.old at 5 1 log.new result.next result.outcome }
+fn finish(bus: &mut Bus, channel: RfChannel, givens: Givens) -> Outcome
+    requires { HasRoom bus.old 5 1 }
+    ensures lent { bus.new.log.ghost_name ≡ bus.old.log.ghost_name }
+    ensures run { Runs (finishing givens channel) bus.old 5 1 bus.new result }
 {
     let event = Events::Update;
-    let processed = rf_machine::process_event(
-        log,
-        replies,
-        at,
-        channel,
-        event,
-        givens.tick,
-        givens.watchdog,
-    );
-    let step = processed.step;
-    let next = processed.next;
-    match step {
-        Step::Went(channel, _) => {
+    match rf_machine::process_event(bus, channel, event, givens.tick, givens.watchdog) {
+        Ok((channel, _)) => {
             let status = rf_tests::power_status(channel);
-            let report = Report::Power(status);
-            let answer = Answer::Done(report);
-            rf_call::live(channel, answer, next)
+            Outcome::Live(channel, Answer::Done(Report::Power(status)))
         }
-        Step::Stopped(cause) => rf_call::halt(log, next, cause),
+        Err(cause) => rf_call::halt(bus, cause),
     }
 }
 
 // Updates the channel: the fault test, the trip test, and then the Update event.
-pub fn update(
-    log: &mut [u8],
-    replies: &[u8],
-    at: Cursor,
-    channel: RfChannel,
-    givens: Givens,
-) -> Ended
-    requires { Room at 12 4 log.old replies.now }
-    ensures { Does (updating channel givens) replies.now log.old at 12 4 log.new result.next result.outcome }
+pub fn update(bus: &mut Bus, channel: RfChannel, givens: Givens) -> Outcome
+    requires { HasRoom bus.old 12 4 }
+    ensures lent { bus.new.log.ghost_name ≡ bus.old.log.ghost_name }
+    ensures run { Runs (updating channel givens) bus.old 12 4 bus.new result }
 {
-    let faulted = fault_stage(log, replies, at, channel, givens);
-    let stage = faulted.stage;
-    let next = faulted.next;
-    match stage {
-        Stage::Stopped(cause) => rf_call::halt(log, next, cause),
-        Stage::Going(channel) => {
-            let tripped = trip_stage(log, replies, next, channel, givens);
-            let stage = tripped.stage;
-            let next = tripped.next;
-            match stage {
-                Stage::Stopped(cause) => rf_call::halt(log, next, cause),
-                Stage::Going(channel) => finish(log, replies, next, channel, givens),
-            }
-        }
+    match fault_stage(bus, channel, givens) {
+        Err(cause) => rf_call::halt(bus, cause),
+        Ok(faulted) => match trip_stage(bus, faulted, givens) {
+            Err(cause) => rf_call::halt(bus, cause),
+            Ok(tripped) => finish(bus, tripped, givens),
+        },
     }
 }

@@ -1,18 +1,19 @@
 -- A judgement on runs: where the run's answer is a good one, the first eight bytes of its rows are those of a list, and it took n replies. The list may hold something that the run decides, as a code. Rules for the pieces of a run. Assumes nothing.
+use Rattle.std.specs.Prelude.{Result, Ok, Err}
 use Prim.Native.Nat.{ℕ, ◌+◌}
 use native.Mathlib.Omega.{arith}
 use mathlib.Core.Path.{◌≡◌, refl, ap, ◌∙◌}
 use mathlib.Core.Bool.{Bool, true, false, cond}
 use mathlib.Core.List.{List, [], ◌∷◌, ◌++◌, map, map-append, append-nil}
 use Rattle.bus.specs.declared.Eight.{Eight}
-use Rattle.bus.specs.declared.Got.{Got}
-use Rattle.bus.specs.declared.Got.TheVariants.{Acked, Failed}
 use Rattle.bus.specs.declared.Note.{Note}
 use Rattle.bus.specs.declared.Transfer.{Transfer}
 use Rattle.bus.specs.Rows.{noted, moved, no_data, bytes, laid, transfer_head}
 use Rattle.bus.specs.Replies.{got_at}
 use Rattle.bus.specs.Run.{Ran, Run, done, bind, mapped, note, transfer, on_got, try}
 use Rattle.row_theorems.specs.Start.{seen}
+use Rattle.bus.specs.declared.Failed.{Failed}
+use Rattle.bus.specs.Rows.{no_answer}
 
 pub record Laid {A I : Type 0} (L : I → ℕ → List (List ℕ)) (n slot taken : ℕ) (x : Ran A) : Type 0 where
   pub which : I
@@ -52,14 +53,14 @@ lays_note n = record { laid = λ rs slot taken g. record { which = tt; rows = re
 
 -- the acknowledged row of a transfer
 abbrev pub sent : Transfer → ℕ → List ℕ
-sent t slot = seen (moved slot t (Acked no_data))
+sent t slot = seen (moved slot t (Ok no_data))
 
-got_row : (t : Transfer) (slot : ℕ) (Good : Got → Type 0) → (Good Failed → ⊥) → (g : Got) → Good g → seen (moved slot t g) ≡ sent t slot
+got_row : (t : Transfer) (slot : ℕ) (Good : Result Eight Failed → Type 0) → (Good (Err no_answer) → ⊥) → (g : Result Eight Failed) → Good g → seen (moved slot t g) ≡ sent t slot
 unfolding bytes laid
-got_row t slot Good never (Acked d) g = refl
-got_row t slot Good never Failed g = absurd (never g)
+got_row t slot Good never (Ok d) g = refl
+got_row t slot Good never (Err e) g = absurd (never g)
 
-pub lays_transfer : (Good : Got → Type 0) (t : Transfer) → (Good Failed → ⊥) → Lays {I = Fixed} (transfer t) Good (λ i slot. sent t slot ∷ []) 1
+pub lays_transfer : (Good : Result Eight Failed → Type 0) (t : Transfer) → (Good (Err no_answer) → ⊥) → Lays {I = Fixed} (transfer t) Good (λ i slot. sent t slot ∷ []) 1
 unfolding transfer
 lays_transfer Good t never =
     record {
@@ -95,20 +96,20 @@ lays_mapped f m x =
           record { which = u.which; rows = ap (map seen) (append-nil (m rs slot taken).rows) ∙ u.rows; replies = u.replies };
     }
 
-abbrev acked : Got → Type 0
-acked (Acked d) = Unit
-acked Failed = ⊥
+abbrev acked : Result Eight Failed → Type 0
+acked (Ok d) = Unit
+acked (Err e) = ⊥
 
-not_failed : {A : Type 0} (Q : A → Type 0) (a : A) (f : Eight → Run A) → (Q a → ⊥) → (g : Got) (rs : List ℕ) (slot taken : ℕ) → Q (on_got a f g rs slot taken).ans → acked g
+not_failed : {A : Type 0} (Q : A → Type 0) (a : A) (f : Eight → Run A) → (Q a → ⊥) → (g : Result Eight Failed) (rs : List ℕ) (slot taken : ℕ) → Q (on_got a f g rs slot taken).ans → acked g
 unfolding on_got done
-not_failed Q a f never (Acked d) rs slot taken q = tt
-not_failed Q a f never Failed rs slot taken q = never q
+not_failed Q a f never (Ok d) rs slot taken q = tt
+not_failed Q a f never (Err e) rs slot taken q = never q
 
 module _ {A I : Type 0} {Q : A → Type 0} {L : I → ℕ → List (List ℕ)} {n : ℕ} where
-  on_got_lem : (a : A) (f : Eight → Run A) → (Q a → ⊥) → ((d : Eight) → Lays (f d) Q L n) → (g : Got) → Lays (on_got a f g) Q L n
+  on_got_lem : (a : A) (f : Eight → Run A) → (Q a → ⊥) → ((d : Eight) → Lays (f d) Q L n) → (g : Result Eight Failed) → Lays (on_got a f g) Q L n
   unfolding on_got
-  on_got_lem a f never x (Acked d) = x d
-  on_got_lem a f never x Failed = lays_never a never
+  on_got_lem a f never x (Ok d) = x d
+  on_got_lem a f never x (Err e) = lays_never a never
 
   -- a transfer whose failure is not a good end
   pub lays_try : (t : Transfer) (a : A) (f : Eight → Run A) → (Q a → ⊥) → ((d : Eight) → Lays (f d) Q L n) → Lays (try t a f) Q (λ (i : Fixed × I) slot. sent t slot ∷ L i.1 slot) (1 + n)

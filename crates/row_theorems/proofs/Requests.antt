@@ -1,4 +1,5 @@
 -- Six rows are too few for a request: a status whose last reading fails has seven. Assumes nothing.
+use Rattle.std.specs.Prelude.{Some}
 use Prim.Native.Nat.{ℕ}
 use native.Mathlib.Omega.{arith}
 use mathlib.Core.Bool.{true, false}
@@ -16,7 +17,6 @@ use Rattle.rf_channel.specs.declared.ChannelState.TheVariants.{Off}
 use Rattle.rf_channel.specs.declared.RfChannel.{RfChannel}
 use Rattle.rf_devices.specs.Devices.{get_input_power}
 use Rattle.rf_call.specs.declared.Givens.{Givens}
-use Rattle.rf_call.specs.declared.Temperature.TheVariants.{Celsius}
 use Rattle.rf_call.specs.Calls.{halting}
 use Rattle.rf_status.specs.Status.{on_input, on_temperature, on_voltages, measuring, on_measures, getting_status}
 use Rattle.rf_start.specs.Start.{fresh}
@@ -42,7 +42,7 @@ channel =
     })
 
 abbrev givens : Givens
-givens = record { tick = 0; alert = true; output_overdrive = false; reflected_overdrive = false; watchdog = false; temperature = Celsius (of_bits binary32 0x41c8_0000) }
+givens = record { tick = 0; alert = true; output_overdrive = false; reflected_overdrive = false; watchdog = false; temperature = Some (of_bits binary32 0x41c8_0000) }
 
 abbrev replies : List ℕ
 replies = replicate 36 0 ++ (1 ∷ replicate 98 0)

@@ -1,4 +1,5 @@
 -- Every start that is answered 0 has document 01's 18 rows. Assumes nothing.
+use Rattle.std.specs.Prelude.{Option, Some, None, Result, Ok, Err}
 use Prim.Native.Nat.{ℕ, ◌+◌, ◌*◌, ◌/◌, ◌%◌}
 use mathlib.Core.Path.{◌≡◌, refl, sym, ap, subst, ◌∙◌}
 use mathlib.Core.Bool.{Bool, false}
@@ -11,8 +12,6 @@ use Rattle.bus.specs.declared.Transfer.TheVariants.{Write2, Write3}
 use Rattle.bus.specs.Rows.{noted, bytes, laid}
 use Rattle.bus.specs.Replies.{got_at, data_at}
 use Rattle.bus.specs.Run.{Run, done, bind, mapped, note, transfer, on_got}
-use Rattle.conversions.specs.declared.Conversion.{Conversion}
-use Rattle.conversions.specs.declared.Conversion.TheVariants.{Code, Range}
 use Rattle.interlock.specs.Level.{level_code}
 use Rattle.mcp3221.specs.Voltage as Mcp3221
 use Rattle.dac7571.specs.Voltage as Dac7571
@@ -22,8 +21,6 @@ use Rattle.ad5627.specs.Opening as Ad5627Opening
 use Rattle.ad5627.specs.Voltage as Ad5627
 use Rattle.ads7924.specs.Calls as Ads7924
 use Rattle.rf_channel.specs.declared.ChannelSettings.{ChannelSettings}
-use Rattle.rf_machine.specs.declared.Effect.{Effect}
-use Rattle.rf_machine.specs.declared.Effect.TheVariants.{Did, Stop}
 use Rattle.rf_machine.specs.Hardware.{on_did, ◌and_then◌, pin, pinch_off}
 use Rattle.rf_devices.specs.Devices.{highest_reflected, apply_output, set_reflected}
 use Rattle.rf_call.specs.declared.Outcome.{Outcome}
@@ -33,14 +30,15 @@ use Rattle.rf_start.specs.declared.Presence.{Presence}
 use Rattle.rf_start.specs.declared.Presence.TheVariants.{Present, Absent as NotThere}
 use Rattle.rf_start.specs.Start.{beginning, monitor, preparing, on_present, module_there, level_set, levels, settling, if_present, starting}
 use Rattle.rf_theorems.proofs.Levels.{levels_sent, pinch_off_in_range}
-use Rattle.row_theorems.specs.Start.{seen, start_rows, EveryStart, traced, SomeStart}
+use Rattle.row_theorems.specs.Start.{seen, start_rows, EveryStart, SomeStart}
 use Rattle.row_theorems.proofs.Lays.{Lays, Fixed, sent, lays_as, lays_done, lays_never, lays_note, lays_transfer, lays_bind, lays_mapped, lays_try, lays_cond}
+use Rattle.rf_machine.specs.declared.Cause.{Cause}
 
 -- ---- good ends
 
-unfoldable IsDid : Effect → Type 0
-IsDid Did = Unit
-IsDid (Stop cause) = ⊥
+unfoldable IsDid : Result (Unit {0}) Cause → Type 0
+IsDid (Ok tt) = Unit
+IsDid (Err cause) = ⊥
 
 unfoldable IsThere : Presence → Type 0
 IsThere Present = Unit
@@ -53,22 +51,22 @@ IsLive (Halted cause) = ⊥
 
 -- ---- one piece of work after another
 
-on_did_lem : {J : Type 0} {K : J → ℕ → List (List ℕ)} {k : ℕ} (m : Run Effect) → Lays m IsDid K k → (e : Effect) → IsDid e → Lays (on_did m e) IsDid K k
+on_did_lem : {J : Type 0} {K : J → ℕ → List (List ℕ)} {k : ℕ} (m : Run (Result (Unit {0}) Cause)) → Lays m IsDid K k → (e : Result (Unit {0}) Cause) → IsDid e → Lays (on_did m e) IsDid K k
 unfolding on_did IsDid
-on_did_lem m x Did p = x
-on_did_lem m x (Stop cause) p = absurd p
+on_did_lem m x (Ok tt) p = x
+on_did_lem m x (Err cause) p = absurd p
 
-did_first : (m : Run Effect) (e : Effect) (rs : List ℕ) (slot taken : ℕ) → IsDid (on_did m e rs slot taken).ans → IsDid e
+did_first : (m : Run (Result (Unit {0}) Cause)) (e : Result (Unit {0}) Cause) (rs : List ℕ) (slot taken : ℕ) → IsDid (on_did m e rs slot taken).ans → IsDid e
 unfolding on_did IsDid done
-did_first m Did rs slot taken q = tt
-did_first m (Stop cause) rs slot taken q = q
+did_first m (Ok tt) rs slot taken q = tt
+did_first m (Err cause) rs slot taken q = q
 
-lays_then : {I J : Type 0} {L : I → ℕ → List (List ℕ)} {K : J → ℕ → List (List ℕ)} {n k : ℕ} (x y : Run Effect) → Lays x IsDid L n → Lays y IsDid K k → Lays (x and_then y) IsDid (λ (i : I × J) slot. L i.0 slot ++ K i.1 slot) (n + k)
+lays_then : {I J : Type 0} {L : I → ℕ → List (List ℕ)} {K : J → ℕ → List (List ℕ)} {n k : ℕ} (x y : Run (Result (Unit {0}) Cause)) → Lays x IsDid L n → Lays y IsDid K k → Lays (x and_then y) IsDid (λ (i : I × J) slot. L i.0 slot ++ K i.1 slot) (n + k)
 lays_then x y u v = lays_bind x (on_did y) u (on_did_lem y v) (did_first y)
 
 lays_pin : (n : Note) → Lays {I = Fixed} (pin n) IsDid (λ i slot. seen (noted slot n) ∷ []) 0
 unfolding pin
-lays_pin n = lays_mapped (λ _. Did) (note n) (lays_note n)
+lays_pin n = lays_mapped (λ _. (Ok tt)) (note n) (lays_note n)
 
 -- ---- the mainboard: rows 1 to 13
 
@@ -121,23 +119,23 @@ lays_module present =
 -- ---- the trip levels: rows 17 and 18
 
 -- a code that was sent
-abbrev Sent : Conversion → Type 0
-Sent x = (n : ℕ) × (x ≡ Code n)
+abbrev Sent : Option ℕ → Type 0
+Sent x = (n : ℕ) × (x ≡ Some n)
 
 -- the row of a code to an output of the interlock chip
 abbrev coded : Dac → ℕ → ℕ → List ℕ
 coded dac n slot = sent (Write3 0x0E (Ad5627.dac_byte dac) (16 * n / 256) (16 * n % 256)) slot
 
-lays_level : (dac : Dac) (x : Conversion) → Lays {I = Sent x} (mapped level_set (Ad5627.send_code dac x)) IsDid (λ i slot. coded dac i.0 slot ∷ []) 1
+lays_level : (dac : Dac) (x : Option ℕ) → Lays {I = Sent x} (mapped level_set (Ad5627.send_code dac x)) IsDid (λ i slot. coded dac i.0 slot ∷ []) 1
 unfolding IsDid
-lays_level dac (Code n) = lays_as _ (λ i. (n, refl)) (λ i slot. refl) (lays_mapped _ _ (lays_try _ _ _ (λ z. z) (λ d. lays_done _)))
-lays_level dac Range = lays_mapped _ _ (lays_never _ (λ z. z))
+lays_level dac (Some n) = lays_as _ (λ i. (n, refl)) (λ i slot. refl) (lays_mapped _ _ (lays_try _ _ _ (λ z. z) (λ d. lays_done _)))
+lays_level dac None = lays_mapped _ _ (lays_never _ (λ z. z))
 
 module _ (s : ChannelSettings) where
-  abbrev output_code : Conversion
+  abbrev output_code : Option ℕ
   output_code = level_code s.output_power_transform s.output_interlock_threshold
 
-  abbrev reflected_code : Conversion
+  abbrev reflected_code : Option ℕ
   reflected_code = level_code s.reflected_power_transform highest_reflected
 
   lays_output : Lays {I = Sent output_code} (mapped level_set (apply_output s)) IsDid (λ i slot. coded B i.0 slot ∷ []) 1
@@ -157,15 +155,15 @@ lays_levels s =
 
 -- ---- the start
 
-did_live : (m : Run Outcome) (e : Effect) (rs : List ℕ) (slot taken : ℕ) → IsLive (or_halt m e rs slot taken).ans → IsDid e
+did_live : (m : Run Outcome) (e : Result (Unit {0}) Cause) (rs : List ℕ) (slot taken : ℕ) → IsLive (or_halt m e rs slot taken).ans → IsDid e
 unfolding or_halt halting bind note done IsLive IsDid
-did_live m Did rs slot taken q = tt
-did_live m (Stop cause) rs slot taken q = q
+did_live m (Ok tt) rs slot taken q = tt
+did_live m (Err cause) rs slot taken q = q
 
-on_live : {I : Type 0} {L : I → ℕ → List (List ℕ)} {n : ℕ} (m : Run Outcome) → Lays m IsLive L n → (e : Effect) → IsDid e → Lays (or_halt m e) IsLive L n
+on_live : {I : Type 0} {L : I → ℕ → List (List ℕ)} {n : ℕ} (m : Run Outcome) → Lays m IsLive L n → (e : Result (Unit {0}) Cause) → IsDid e → Lays (or_halt m e) IsLive L n
 unfolding or_halt IsDid
-on_live m x Did p = x
-on_live m x (Stop cause) p = absurd p
+on_live m x (Ok tt) p = x
+on_live m x (Err cause) p = absurd p
 
 lays_settling : (s : ChannelSettings) → Lays {I = Codes s} (settling s) IsLive (λ i slot. drop 16 (start_rows slot i.output.0 i.reflected.0)) 2
 unfolding settling

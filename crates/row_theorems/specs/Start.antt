@@ -1,11 +1,10 @@
 -- The rows of every start that is answered 0, byte for byte as document 01 lists them. Definitions only.
-use Rattle.std.specs.Prelude.{ℕ, ◌+◌, ◌*◌, ◌/◌, ◌%◌, ◌≡◌, Bool, true, List, [], ◌∷◌, map, length, take, replicate}
+use Rattle.std.specs.Prelude.{ℕ, ◌+◌, ◌*◌, ◌/◌, ◌%◌, ◌≡◌, Bool, true, List, [], ◌∷◌, map, length, take, replicate, Some}
 use Rattle.std.specs.Float.{binary32}
 use Rattle.std.specs.Float.Ieee.{of_bits}
 use Rattle.linear_transformation.specs.Line.{line}
 use Rattle.bus.specs.Rows.{Row, bytes}
 use Rattle.bus.specs.Run.{Ran}
-use Rattle.conversions.specs.declared.Conversion.TheVariants.{Code}
 use Rattle.interlock.specs.Level.{level_code}
 use Rattle.rf_channel.specs.declared.ChannelSettings.{ChannelSettings}
 use Rattle.rf_channel.specs.declared.ChannelState.TheVariants.{Enabled}
@@ -53,8 +52,8 @@ start_rows n x y =
 pub record Started (s : ChannelSettings) (slot taken : ℕ) (x : Ran Outcome) : Type 0 where
   pub output : ℕ
   pub reflected : ℕ
-  pub output_code_lem : level_code s.output_power_transform s.output_interlock_threshold ≡ Code output
-  pub reflected_code_lem : level_code s.reflected_power_transform highest_reflected ≡ Code reflected
+  pub output_code_lem : level_code s.output_power_transform s.output_interlock_threshold ≡ Some output
+  pub reflected_code_lem : level_code s.reflected_power_transform highest_reflected ≡ Some reflected
   pub rows : map seen x.rows ≡ start_rows slot output reflected
   pub count : length x.rows ≡ 18
   pub replies : x.taken ≡ taken + 15

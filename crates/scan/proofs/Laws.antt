@@ -1,29 +1,44 @@
--- Where a byte stands in a part: by the part's first byte, and at its end. Assumes nothing.
-use Rattle.std.proofs.Common.{◌≡◌, ◌≤◌, ◌<◌, ℕ, ◌+◌, ◌-◌, suc, List, [], ◌∷◌, length, get_or, take, drop, refl, arith, add-one, drop-cons, get_or-take, length-take, eq-eqb, ne_eqb}
-use Rattle.std.proofs.Math.ListN.{drop_of_length-le}
+-- Where a byte stands first, by what the library's search for it finds. Assumes nothing.
+use Rattle.std.proofs.Common.{◌≡◌, ◌≤◌, ℕ, ◌+◌, ◌-◌, Bool, true, false, List, [], ◌∷◌, length, length-take, length-drop, take, drop, suc, refl, sym, ◌∙◌, arith, eqb, ltb, cond, Some, None, position}
+use Rattle.std.proofs.lemmas.Bool.Decides.{nat_tests}
+use Rattle.std.proofs.lemmas.List.{drop-take}
+use Rattle.std.proofs.lemmas.List.Recursion.{is_position_or_len}
+use Rattle.std.proofs.lemmas.Option.{cond_some}
+use Rattle.std.specs.List.{position_or_len}
 use Rattle.scan.specs.Scan.{index_of, index_after, slice}
 
-module _ (s : List ℕ) (i end : ℕ) (here : i < end) (within : end ≤ length s) where
-  first : slice i end s ≡ get_or s i 0 ∷ slice (i + 1) end s
+index_is : (byte : ℕ) (l : List ℕ) → index_of byte l ≡ position_or_len (λ b. eqb b byte) l
+unfolding index_of index_after
+index_is byte = is_position_or_len (index_of byte) (λ b. eqb b byte) refl (λ x xs. rw (one_more (index_of byte xs)))
+  where
+    one_more : (n : ℕ) → 1 + n ≡ suc n
+    one_more n = omega arith
+
+index_most : (byte : ℕ) (l : List ℕ) → index_of byte l ≤ length l
+unfolding index_of index_after
+index_most byte [] = omega arith
+index_most byte (x ∷ xs) = go (eqb x byte) (index_of byte xs) (index_most byte xs)
+  where
+    go : (t : Bool) (n : ℕ) → n ≤ length xs → cond t 0 (suc n) ≤ length (x ∷ xs)
+    go true n h = omega arith
+    go false n h = omega arith
+
+found : (byte : ℕ) (l : List ℕ) (i : ℕ) → position (λ b. eqb b byte) l ≡ Some i → index_of byte l ≡ i
+found byte l i h = index_is byte l ∙ (cond_some (ltb (position_or_len (λ b. eqb b byte) l) (length l)) (position_or_len (λ b. eqb b byte) l) i h).1
+
+not_found : (byte : ℕ) (l : List ℕ) → position (λ b. eqb b byte) l ≡ None → index_of byte l ≡ length l
+not_found byte l h = go (position_or_len (λ b. eqb b byte) l) (index_is byte l) h
+  where
+    go : (n : ℕ) → index_of byte l ≡ n → cond (ltb n (length l)) (Some n) None ≡ None → index_of byte l ≡ length l
+    go n e h = grind (arith, nat_tests, index_most byte l)
+
+module _ (s : List ℕ) (start end : ℕ) (order : start ≤ end) (byte : ℕ) where
+  slice_is : take (end - start) (drop start s) ≡ slice start end s
   unfolding slice
-  first =
-      let short : length (take end s) ≡ end = simp length-take (omega arith) in
-      let less : i < length (take end s) = omega arith in
-      rw (add-one, drop-cons (take end s) i 0, get_or-take end s i 0)
+  slice_is = let e : start + (end - start) ≡ end = omega arith in sym (rw e at (drop-take start (end - start) s))
 
-  -- the byte stands at the part's front
-  pub found : (byte : ℕ) → get_or s i 0 ≡ byte → index_of byte (slice i end s) ≡ 0
-  unfolding index_of index_after
-  found byte e = rw (first, eq-eqb (get_or s i 0) byte e)
+  pub found_from : (i : ℕ) → position (λ b. eqb b byte) (take (end - start) (drop start s)) ≡ Some i → start + i ≡ start + index_of byte (slice start end s)
+  found_from i h = rw (← slice_is) (omega (arith, found byte _ i h))
 
-  -- it does not: one place more
-  pub passed : (byte : ℕ) → (get_or s i 0 ≡ byte → ⊥) → index_of byte (slice i end s) ≡ suc (index_of byte (slice (i + 1) end s))
-  unfolding index_of index_after
-  passed byte e = rw (first, ne_eqb (get_or s i 0) byte e)
-
--- nothing is left of the part
-pub ended : (byte : ℕ) (s : List ℕ) (i end : ℕ) → end ≤ i → index_of byte (slice i end s) ≡ 0
-unfolding index_of slice
-ended byte s i end past =
-    let none : length (take end s) ≤ i = simp length-take (omega arith) in
-    rw drop_of_length-le
+  pub not_found_from : end ≤ length s → position (λ b. eqb b byte) (take (end - start) (drop start s)) ≡ None → end ≡ start + index_of byte (slice start end s)
+  not_found_from within h = rw (← slice_is) (omega (arith, not_found byte _ h, length-take {A = ℕ}, length-drop {A = ℕ}))

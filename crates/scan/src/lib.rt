@@ -11,12 +11,8 @@ pub fn find(s: &[u8], start: usize, end: usize, byte: u8) -> usize
     ensures place { result ≡ start + index_of byte (slice start end s.now) }
     ensures bound { result ≤ end }
 {
-    let mut i = start;
-    while i < end {
-        if s[i] == byte {
-            return i;
-        }
-        i += 1;
+    match s[start..end].iter().position(|b| *b == byte) {
+        Some(i) => start + i,
+        None => end,
     }
-    end
 }

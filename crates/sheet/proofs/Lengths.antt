@@ -8,7 +8,6 @@ use lib.ListN.{length, length-append}
 use Rattle.text.specs.Texts.{bytes_of, decimal_text}
 use Rattle.text.proofs.Decimals.{decimal_length}
 use Rattle.rf_call.specs.declared.Slot.{Slot}
-use Rattle.state_name.specs.Names.{state_text}
 use Rattle.state_name.proofs.Lengths.{state_length}
 use Rattle.sheet.specs.Lines.{power_of, rf_of, level_text, standing_text, header_text, answer_text, bad_text}
 

@@ -2,103 +2,89 @@
 #![tactic(auto)]
 
 ghost use Rattle.std.specs.Prelude.{◌≡◌, ◌++◌, ◌+◌, ◌≤◌, length};
-ghost use Rattle.text.specs.Texts.{Wrote, bytes_of, decimal_text};
+ghost use Rattle.text.specs.Texts.{bytes_of, decimal_text};
+ghost use Rattle.text.specs.Writers.{Writes};
 ghost use Rattle.sheet.specs.Lines.{power_of, rf_of, level_text, standing_text, header_text, answer_text, bad_text};
 
 use rf_call::Slot;
 use state_name::put_slot;
-use text::{put_bytes, put_decimal};
+use text::Writer;
 
 // The level of the pin enable_power. A slot without a channel drives no pin, and shows 0.
 fn power_of(slot: Slot) -> bool
     ensures { result ≡ power_of slot }
 {
-    match slot {
-        Slot::Empty => false,
-        Slot::Halted(_) => false,
-        Slot::Channel(channel) => channel.enable_power,
-    }
+    matches!(slot, Slot::Channel(channel) if channel.enable_power)
 }
 
 // The level of the pin signal_on, likewise.
 fn rf_of(slot: Slot) -> bool
     ensures { result ≡ rf_of slot }
 {
-    match slot {
-        Slot::Empty => false,
-        Slot::Halted(_) => false,
-        Slot::Channel(channel) => channel.signal_on,
-    }
+    matches!(slot, Slot::Channel(channel) if channel.signal_on)
 }
 
 // A number and the comma behind it.
-fn put_number(out: &mut [u8], at: usize, n: u64) -> usize
-    requires { at + 21 ≤ length out.old }
-    ensures { Wrote out.old at out.new result (decimal_text n ++ bytes_of ",") }
+fn put_number(writer: &mut Writer, n: u64)
+    requires { writer.old.at + 21 ≤ length writer.old.out.now }
+    ensures lent { writer.new.out.ghost_name ≡ writer.old.out.ghost_name }
+    ensures text { Writes writer.old writer.new (decimal_text n ++ bytes_of ",") }
 {
-    let past = put_decimal(out, at, n);
-    put_bytes(out, past, b",")
+    writer.put_decimal(n);
+    writer.put_bytes(b",");
 }
 
 // A level and the comma behind it.
-fn put_level(out: &mut [u8], at: usize, on: bool) -> usize
-    requires { at + 2 ≤ length out.old }
-    ensures { Wrote out.old at out.new result (level_text on ++ bytes_of ",") }
+#[tactic(auto, unfolding(crate::specs::Lines::level_text))]
+fn put_level(writer: &mut Writer, on: bool)
+    requires { writer.old.at + 2 ≤ length writer.old.out.now }
+    ensures lent { writer.new.out.ghost_name ≡ writer.old.out.ghost_name }
+    ensures text { Writes writer.old writer.new (level_text on ++ bytes_of ",") }
 {
-    if on {
-        put_bytes(out, at, b"1,")
-    } else {
-        put_bytes(out, at, b"0,")
-    }
+    writer.put_bytes(if on { b"1," } else { b"0," });
 }
 
 // What stands in the slot: its state and the two levels, with a comma behind each.
-fn put_standing(out: &mut [u8], at: usize, slot: Slot) -> usize
-    requires { at + 30 ≤ length out.old }
-    ensures { Wrote out.old at out.new result (standing_text slot) }
+fn put_standing(writer: &mut Writer, slot: Slot)
+    requires { writer.old.at + 30 ≤ length writer.old.out.now }
+    ensures lent { writer.new.out.ghost_name ≡ writer.old.out.ghost_name }
+    ensures text { Writes writer.old writer.new (standing_text slot) }
 {
-    let power = power_of(slot);
-    let rf = rf_of(slot);
-    let past_state = put_slot(out, at, slot);
-    let past_comma = put_bytes(out, past_state, b",");
-    let past_power = put_level(out, past_comma, power);
-    put_level(out, past_power, rf)
+    put_slot(writer, slot);
+    writer.put_bytes(b",");
+    put_level(writer, power_of(slot));
+    put_level(writer, rf_of(slot));
 }
 
 // The line for a call. No line is longer than the 96 bytes that a caller keeps free for each.
-pub fn put_answer(
-    out: &mut [u8],
-    at: usize,
-    line: u64,
-    answer: u8,
-    slot: Slot,
-    used: usize,
-) -> usize
-    requires { at + 96 ≤ length out.old }
-    ensures { Wrote out.old at out.new result (answer_text line answer slot used) }
+pub fn put_answer(writer: &mut Writer, line: u64, answer: u8, slot: Slot, used: usize)
+    requires { writer.old.at + 96 ≤ length writer.old.out.now }
+    ensures lent { writer.new.out.ghost_name ≡ writer.old.out.ghost_name }
+    ensures text { Writes writer.old writer.new (answer_text line answer slot used) }
 {
-    let past_line = put_number(out, at, line);
-    let number = answer as u64;
-    let past_answer = put_number(out, past_line, number);
-    let past_standing = put_standing(out, past_answer, slot);
-    let rows = used as u64;
-    let past_rows = put_decimal(out, past_standing, rows);
-    put_bytes(out, past_rows, b"\r\n")
+    put_number(writer, line);
+    put_number(writer, answer as u64);
+    put_standing(writer, slot);
+    writer.put_decimal(used as u64);
+    writer.put_bytes(b"\r\n");
 }
 
 // The line for an input line that does not fit.
-pub fn put_bad(out: &mut [u8], at: usize, line: u64) -> usize
-    requires { at + 96 ≤ length out.old }
-    ensures { Wrote out.old at out.new result (bad_text line) }
+pub fn put_bad(writer: &mut Writer, line: u64)
+    requires { writer.old.at + 96 ≤ length writer.old.out.now }
+    ensures lent { writer.new.out.ghost_name ≡ writer.old.out.ghost_name }
+    ensures text { Writes writer.old writer.new (bad_text line) }
 {
-    let past_line = put_number(out, at, line);
-    put_bytes(out, past_line, b"bad\r\n")
+    put_number(writer, line);
+    writer.put_bytes(b"bad\r\n");
 }
 
 // The first line, with the columns' names.
-pub fn put_header(out: &mut [u8], at: usize) -> usize
-    requires { at + 96 ≤ length out.old }
-    ensures { Wrote out.old at out.new result header_text }
+#[tactic(auto, unfolding(crate::specs::Lines::header_text))]
+pub fn put_header(writer: &mut Writer)
+    requires { writer.old.at + 96 ≤ length writer.old.out.now }
+    ensures lent { writer.new.out.ghost_name ≡ writer.old.out.ghost_name }
+    ensures text { Writes writer.old writer.new header_text }
 {
-    put_bytes(out, at, b"line,answer,state,power,rf,rows\r\n")
+    writer.put_bytes(b"line,answer,state,power,rf,rows\r\n");
 }

@@ -1,4 +1,5 @@
 -- A halt stays. Assumes nothing.
+use Rattle.std.specs.Prelude.{Result, Ok, Err}
 use Prim.Native.Nat.{ℕ}
 use native.Mathlib.Omega.{arith}
 use mathlib.Core.Path.{◌≡◌, refl, sym, ◌∙◌}
@@ -13,14 +14,14 @@ use Rattle.rf_call.specs.declared.Slot.{Slot}
 use Rattle.rf_call.specs.declared.Slot.TheVariants as S
 use Rattle.rf_call.specs.Outcome.{slot_of}
 use Rattle.entry.specs.declared.Call.{Call}
-use Rattle.entry.specs.declared.Entry.{Entry}
-use Rattle.entry.specs.declared.Entry.TheVariants.{Open, Shut}
 use Rattle.entry.specs.Tests.{free_rows, entry_of}
 use Rattle.slots.specs.declared.Verdict.TheVariants.{Halted}
 use Rattle.slots.specs.Slots.{verdict_of}
 use Rattle.slots.proofs.Laws.{said_once}
 use Rattle.slot_call.specs.Step.{acts, through, stepped}
 use Rattle.slot_call.specs.HaltStays.{AnswersThree, HaltStays, HaltStaysInBay}
+use Rattle.entry.specs.declared.Admitted.{Admitted}
+use Rattle.entry.specs.declared.Refusal.{Refusal}
 
 pub halted_answers : (cause : Cause) → AnswersThree (S.Halted cause)
 unfolding stepped
@@ -32,9 +33,9 @@ left_halted cause (O.Live c answer) h = absurd (let z : ◌≡◌ {A = ℕ} 0 1 
 left_halted cause O.Absent h = absurd (let z : ◌≡◌ {A = ℕ} 0 1 = cc in omega arith)
 left_halted cause (O.Halted other) h = cc
 
-leaves_cause : (n : ℕ) (s : Slot) (replies : List ℕ) (numbers : List Float) (cause : Cause) (e : Entry) → (through e n s replies numbers).verdict ≡ Halted cause → (through e n s replies numbers).standing ≡ S.Halted cause
-leaves_cause n s replies numbers cause (Shut refusal) h = absurd (let z : ◌≡◌ {A = ℕ} 0 1 = cc in omega arith)
-leaves_cause n s replies numbers cause (Open a) h = left_halted cause (acts a replies n 0).ans h
+leaves_cause : (n : ℕ) (s : Slot) (replies : List ℕ) (numbers : List Float) (cause : Cause) (e : Result Admitted Refusal) → (through e n s replies numbers).verdict ≡ Halted cause → (through e n s replies numbers).standing ≡ S.Halted cause
+leaves_cause n s replies numbers cause (Err refusal) h = absurd (let z : ◌≡◌ {A = ℕ} 0 1 = cc in omega arith)
+leaves_cause n s replies numbers cause (Ok a) h = left_halted cause (acts a replies n 0).ans h
 
 halt_left : (n : ℕ) (s : Slot) (call : Call) (free : ℕ) (replies : List ℕ) (numbers : List Float) (cause : Cause) → (stepped n s call free replies numbers).verdict ≡ Halted cause → (stepped n s call free replies numbers).standing ≡ S.Halted cause
 unfolding stepped

@@ -1,7 +1,7 @@
 -- What a call does to what stands in the slot that it names, and what it leaves. Of the log it sees how many rows are free, and of the rack nothing but that slot. Definitions only.
-use Rattle.std.specs.Prelude.{ℕ, ◌+◌, ◌≤◌, ◌≡◌, List, [], length, Float}
+use Rattle.std.specs.Prelude.{ℕ, ◌+◌, ◌≤◌, ◌≡◌, List, [], length, Float, Result, Ok, Err}
 use Rattle.bus.specs.Rows.{Row, written}
-use Rattle.bus.specs.Run.{Run, Ran}
+use Rattle.bus.specs.Run.{Run}
 use Rattle.gate.specs.Gate as G
 use Rattle.rf_call.specs.declared.Outcome.{Outcome}
 use Rattle.rf_call.specs.declared.Slot.{Slot}
@@ -11,13 +11,12 @@ use Rattle.rf_calls.specs.Requests.{requested, shown_by}
 use Rattle.entry.specs.declared.Admitted.{Admitted}
 use Rattle.entry.specs.declared.Admitted.TheVariants.{Start, Ask}
 use Rattle.entry.specs.declared.Call.{Call}
-use Rattle.entry.specs.declared.Entry.{Entry}
-use Rattle.entry.specs.declared.Entry.TheVariants.{Open, Shut}
 use Rattle.entry.specs.Tests.{entry_of}
 use Rattle.slots.specs.declared.Verdict.{Verdict}
 use Rattle.slots.specs.declared.Verdict.TheVariants.{Refused}
 use Rattle.slots.specs.Slots.{verdict_of, said_of}
 use Rattle.slot_call.specs.declared.Stepped.{Stepped}
+use Rattle.entry.specs.declared.Refusal.{Refusal}
 
 -- ---- a call that is let in
 
@@ -40,9 +39,9 @@ pub record After : Type 0 where
   pub numbers : List Float
 
 -- what is refused leaves all as it was; what is let in leaves what its run left
-abbrev pub through : Entry → ℕ → Slot → List ℕ → List Float → After
-through (Shut refusal) n s replies numbers = record { standing = s; verdict = Refused refusal; rows = []; numbers = numbers }
-through (Open a) n s replies numbers =
+abbrev pub through : Result Admitted Refusal → ℕ → Slot → List ℕ → List Float → After
+through (Err refusal) n s replies numbers = record { standing = s; verdict = Refused refusal; rows = []; numbers = numbers }
+through (Ok a) n s replies numbers =
     let x = acts a replies n 0 in
     record { standing = slot_of x.ans; verdict = verdict_of x.ans; rows = x.rows; numbers = shown_to a replies n 0 numbers }
 

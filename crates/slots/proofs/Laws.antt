@@ -19,7 +19,6 @@ use Rattle.rf_call.specs.declared.Slot.TheVariants.{Empty}
 use Rattle.rf_call.specs.Outcome.{cause_of}
 use Rattle.entry.specs.declared.Refusal.{Refusal}
 use Rattle.entry.specs.declared.Refusal.TheVariants as No
-use Rattle.entry.specs.Tests as E
 use Rattle.slots.specs.declared.Bay.{Bay}
 use Rattle.slots.specs.declared.Rack.{Rack}
 use Rattle.slots.specs.declared.Verdict.{Verdict}

@@ -2,8 +2,6 @@
 use Rattle.std.specs.Prelude.{ℕ, Bool, cond, leb, get_or, set, replicate}
 use Rattle.std.proofs.Math.Option.{Option, none, some}
 use Rattle.rf_channel.specs.declared.States.{States}
-use Rattle.rf_machine.specs.declared.Cause.{Cause}
-use Rattle.rf_call.specs.declared.Answer.{Answer}
 use Rattle.rf_call.specs.declared.Answer.TheVariants as A
 use Rattle.rf_call.specs.declared.Report.{Report}
 use Rattle.rf_call.specs.declared.Report.TheVariants.{Plain, Power, Status}

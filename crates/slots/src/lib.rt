@@ -8,7 +8,7 @@ use entry::Refusal;
 use rf_call::{Answer, Outcome, Slot};
 use rf_machine::Cause;
 
-// A slot of the bay. An array of a struct's own may hold structs, and not enums.
+// A slot of the bay. A struct of its own, since it can be lent and changed in place.
 #[derive(Clone, Copy)]
 pub struct Bay {
     pub slot: Slot,
@@ -40,8 +40,7 @@ pub struct Turn {
 pub fn empty() -> Rack
     ensures { result ≡ empty_rack }
 {
-    let slot = Slot::Empty;
-    let bay = Bay { slot };
+    let bay = Bay { slot: Slot::Empty };
     Rack { bays: [bay; 8] }
 }
 
@@ -52,26 +51,21 @@ pub fn slot_at(rack: Rack, slot: u8) -> Slot
     if 8 <= slot {
         return Slot::Empty;
     }
-    let i = slot as usize;
-    let bay = rack.bays[i];
-    let standing = bay.slot;
-    standing
+    rack.bays[slot as usize].slot
 }
 
 // The rack with another thing in one of its slots. Above the eighth nothing changes.
 pub fn put_at(rack: Rack, slot: u8, standing: Slot) -> Rack
     ensures { result ≡ put_at rack slot standing }
 {
-    if 8 <= slot {
-        return rack;
+    let mut rack = rack;
+    if slot < 8 {
+        rack.bays[slot as usize] = Bay { slot: standing };
     }
-    let mut out = rack;
-    let i = slot as usize;
-    let bay = Bay { slot: standing };
-    out.bays[i] = bay;
-    out
+    rack
 }
 
+// The answer of a call that was let in. No `From`: the name says which step this is, and the definition has it.
 pub fn verdict_of(outcome: Outcome) -> Verdict
     ensures { result ≡ verdict_of outcome }
 {
@@ -88,13 +82,11 @@ pub fn number(verdict: Verdict) -> u8
 {
     match verdict {
         Verdict::Refused(refusal) => entry::number(refusal),
-        Verdict::Answered(answer) => match answer {
-            Answer::Done(_) => 0,
-            Answer::NoTransition => 9,
-            Answer::GuardFalse => 10,
-            Answer::Range => 11,
-            Answer::Chip => 12,
-        },
+        Verdict::Answered(Answer::Done(_)) => 0,
+        Verdict::Answered(Answer::NoTransition) => 9,
+        Verdict::Answered(Answer::GuardFalse) => 10,
+        Verdict::Answered(Answer::Range) => 11,
+        Verdict::Answered(Answer::Chip) => 12,
         Verdict::Absent => 13,
         Verdict::Halted(_) => 14,
     }
@@ -105,9 +97,7 @@ pub fn cause_beside(verdict: Verdict) -> u8
     ensures { result ≡ cause_beside verdict }
 {
     match verdict {
-        Verdict::Refused(_) => 0,
-        Verdict::Answered(_) => 0,
-        Verdict::Absent => 0,
         Verdict::Halted(cause) => rf_call::cause_number(cause),
+        _ => 0,
     }
 }

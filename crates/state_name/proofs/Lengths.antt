@@ -11,7 +11,7 @@ use Rattle.rf_call.specs.declared.Slot.{Slot}
 use Rattle.rf_call.specs.declared.Slot.TheVariants.{Empty, Halted, Channel}
 use Rattle.state_name.specs.Names.{state_name, state_text}
 
-name_length : (s : States) → length (bytes_of (state_name s)) ≤ 25
+pub name_length : (s : States) → length (bytes_of (state_name s)) ≤ 25
 name_length (S.Blocked OverTemperature) = lit≤ tt
 name_length (S.Blocked UnderTemperature) = lit≤ tt
 name_length (S.Blocked SupplyAlert) = lit≤ tt

@@ -3,13 +3,13 @@
 -- And a larger fraction never gets fewer steps (`grid_mono`). Assumes nothing.
 use mathlib.Core.Path.{◌≡◌, refl, sym, ap, ◌∙◌, subst}
 use mathlib.Core.Logic.{◌⊎◌, inl, inr}
-use Prim.Native.Nat.{ℕ, suc, ◌+◌, ◌-◌, ◌*◌, ◌/◌, ◌^◌, ◌≤◌, ◌<◌}
-use native.Mathlib.Nat.{mul_assoc, mul_comm, mul_left_comm, mul-one, mul-pos, mul-le-mul_left, mul-le-mul_right, le_trans, le_of_eq, le_of_lt, le_of_suc-le-suc, lt_of_not-le, le-div_iff_mul-le, le_of_mul-le-mul_right, eq_of_mul-eq-mul_right, add-mul, eq-zero-or-pos, not-le_of_lt}
-use native.Mathlib.Decide.{dec_le, dec_lt}
+use Prim.Native.Nat.{ℕ, suc, ◌+◌, ◌*◌, ◌/◌, ◌^◌, ◌≤◌, ◌<◌}
+use native.Mathlib.Nat.{mul_assoc, mul_comm, mul-one, mul-pos, le_trans, le_of_eq, le_of_lt, le_of_suc-le-suc, lt_of_not-le, le-div_iff_mul-le, le_of_mul-le-mul_right, eq_of_mul-eq-mul_right, add-mul, eq-zero-or-pos, not-le_of_lt}
+use native.Mathlib.Decide.{dec_lt}
 use native.Mathlib.Omega.{arith}
 use mathlib.Core.Bool.{Bool, true, false, true≢false, cond, ◌&&◌, ◌||◌}
 use lib.Dec.{T, ltb, eqb, ltb→lt, eqb→eq}
-use lib.Pow.{pow-add, pow_pos, pow_mono}
+use lib.Pow.{pow-add, pow_pos}
 use lib.Ieee.{Float, nan, inf, fin, binary32, prec, low, up, down, size, units, odd, round, le}
 use lib.Ieee.Digits.{size_reaches}
 use lib.Ieee.Fits.{round_is, down_pos}

@@ -2,22 +2,22 @@
 use mathlib.Core.Path.{◌≡◌, refl, sym, ap, ◌∙◌, subst}
 use mathlib.Core.Logic.{◌⊎◌, inl, inr}
 use Prim.Native.Nat.{ℕ, suc, ◌+◌, ◌-◌, ◌*◌, ◌/◌, ◌%◌, ◌^◌, ◌≤◌, ◌<◌, compare}
-use native.Mathlib.Nat.{mul_assoc, mul_comm, mul_left_comm, mul-one, mul-pos, mul-le-mul_left, mul-le-mul_right, mul-lt-mul_of_pos_right, le_trans, le_of_eq, le_of_lt, le_antisymm, le_of_suc-le-suc, lt_of_lt_of_le, lt_of_le_of_lt, lt_of_not-le, not-le_of_lt, lt_of_mul-lt-mul_right, le_of_mul-le-mul_right, eq_of_mul-eq-mul_right, le-div_iff_mul-le, div-div-eq-div-mul, pow-succ'}
+use native.Mathlib.Nat.{mul_assoc, mul_comm, mul_left_comm, mul-one, mul-pos, mul-le-mul_left, mul-le-mul_right, mul-lt-mul_of_pos_right, le_trans, le_of_eq, le_of_lt, le_antisymm, le_of_suc-le-suc, lt_of_lt_of_le, lt_of_le_of_lt, lt_of_not-le, not-le_of_lt, lt_of_mul-lt-mul_right, le_of_mul-le-mul_right, le-div_iff_mul-le, div-div-eq-div-mul, pow-succ'}
 use native.Mathlib.Decide.{dec_le, dec_lt}
 use native.Mathlib.Omega.{arith}
 use mathlib.Core.Bool.{Bool, false, cond}
 use lib.Dec.{T, lit<}
 use lib.Pow.{pow-add, pow_pos, pow_mono, pow-lt}
 use lib.Ieee.{Float, nan, inf, fin, binary32, size, round, le, of_bits, to_bits}
-use lib.Ieee.Fits.{nearest-le, kept-lt, round-fits}
+use lib.Ieee.Fits.{nearest-le, kept-lt}
 use lib.Ieee.Nearest.{nearest-ge}
 use lib.Ieee.Order.{drop, kept, round_mono}
 use lib.Ieee.Bits.{of_bits-to_bits}
 use lib.Ieee.Scale.{grid, overflow, finite}
 use Rattle.steps.specs.Steps.{unit, magnitude, negative, IsNumber, gap}
-use Rattle.steps.specs.Rounding.{Size, Nearest, too_large, Rounded, OneResult, EveryFraction}
+use Rattle.steps.specs.Rounding.{Size, Nearest, too_large, OneResult, EveryFraction}
 use Rattle.steps.proofs.Closest.{Half, closest_half, closest_least, apart}
-use Rattle.steps.proofs.Apart.{in_units, one_more, few}
+use Rattle.steps.proofs.Apart.{in_units, few}
 use Rattle.steps.proofs.Round.{coarse, regroup, round_at, round_over, not_under}
 use Rattle.steps.proofs.Sizes.{reach_of}
 use Rattle.steps.proofs.Operations.{rounded}

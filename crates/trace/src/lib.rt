@@ -1,5 +1,5 @@
 // A line of a trace, without its end: nine columns, of which the first seven and the last make a call. The
-// replies, in the eighth, are for the crate `reply_field`: an answer can hold no array.
+// replies, in the eighth, are for the crate `reply_field`.
 #![tactic(auto)]
 
 ghost use Rattle.std.specs.Prelude.{◌≡◌};
@@ -8,183 +8,82 @@ ghost use Rattle.names.specs.Names.{flag_of};
 ghost use Rattle.trace.specs.Trace.{givens_of, request_of, filled_of, call_of, parsed_of};
 
 use entry::Call;
-use field::Number;
-use given_field::{Fields, Warmth};
-use names::{Flag, Name};
+use names::Name;
 use rf_call::Givens;
 use rf_calls::Request;
 use rf_channel::ChannelSettings;
 use rf_status::Detectors;
 
-// What is given to a call, or a field that does not fit.
-#[derive(Clone, Copy)]
-pub enum Given {
-    Is(Givens),
-    Not,
-}
-
-// A request without settings, or none.
-#[derive(Clone, Copy)]
-pub enum Plain {
-    Is(Request),
-    Not,
-}
-
-// A call, or a line that does not fit.
-#[derive(Clone, Copy)]
-pub enum Parsed {
-    Call(Call),
-    Bad,
-}
-
 // The flag in a column.
-fn flag_at(s: &[u8], k: usize) -> Flag
+fn flag_at(s: &[u8], k: usize) -> Option<bool>
     ensures { result ≡ flag_of (column_of k s.now) }
 {
-    let p = columns::part(s, k);
-    names::flag_of(p)
+    names::flag_of(columns::part(s, k))
 }
 
 // The tick, the temperature and the four flags.
-fn givens_of(s: &[u8]) -> Given
+#[tactic(auto, unfolding(crate::specs::Trace::givens_of))]
+fn givens_of(s: &[u8]) -> Option<Givens>
     ensures { result ≡ givens_of s.now }
 {
-    let first = columns::part(s, 0);
-    let number = field::decimal(first);
-    let Number::Is(tick) = number else {
-        return Given::Not;
-    };
-    let third = columns::part(s, 2);
-    let warmth = given_field::warmth_of(third);
-    let Warmth::Is(temperature) = warmth else {
-        return Given::Not;
-    };
-    let flag = flag_at(s, 3);
-    let Flag::Is(alert) = flag else {
-        return Given::Not;
-    };
-    let flag = flag_at(s, 4);
-    let Flag::Is(output_overdrive) = flag else {
-        return Given::Not;
-    };
-    let flag = flag_at(s, 5);
-    let Flag::Is(reflected_overdrive) = flag else {
-        return Given::Not;
-    };
-    let flag = flag_at(s, 6);
-    let Flag::Is(watchdog) = flag else {
-        return Given::Not;
-    };
-    let givens = Givens {
-        tick,
-        alert,
-        output_overdrive,
-        reflected_overdrive,
-        watchdog,
-        temperature,
-    };
-    Given::Is(givens)
+    Some(Givens {
+        tick: field::decimal(columns::part(s, 0))?,
+        temperature: given_field::warmth_of(columns::part(s, 2))?,
+        alert: flag_at(s, 3)?,
+        output_overdrive: flag_at(s, 4)?,
+        reflected_overdrive: flag_at(s, 5)?,
+        watchdog: flag_at(s, 6)?,
+    })
 }
 
 // A request that comes without settings. A status has no detectors to show.
-fn request_of(name: Name) -> Plain
+fn request_of(name: Name) -> Option<Request>
     ensures { result ≡ request_of name }
 {
     match name {
-        Name::Start => Plain::Not,
-        Name::Startup => {
-            let request = Request::Startup;
-            Plain::Is(request)
-        }
-        Name::Update => {
-            let request = Request::Update;
-            Plain::Is(request)
-        }
-        Name::Reset => {
-            let request = Request::Reset;
-            Plain::Is(request)
-        }
-        Name::Standby => {
-            let request = Request::Standby;
-            Plain::Is(request)
-        }
-        Name::Settings => Plain::Not,
-        Name::Status => {
-            let detectors = Detectors {
-                output: 0,
-                reflected: 0,
-            };
-            let request = Request::Status(detectors);
-            Plain::Is(request)
-        }
-        Name::Not => Plain::Not,
+        Name::Start | Name::Settings => None,
+        Name::Startup => Some(Request::Startup),
+        Name::Update => Some(Request::Update),
+        Name::Reset => Some(Request::Reset),
+        Name::Standby => Some(Request::Standby),
+        Name::Status => Some(Request::Status(Detectors {
+            output: 0,
+            reflected: 0,
+        })),
     }
 }
 
 // A call that comes with settings. The module is there.
-fn filled_of(name: Name, settings: ChannelSettings, givens: Givens) -> Parsed
+fn filled_of(name: Name, settings: ChannelSettings, givens: Givens) -> Option<Call>
     ensures { result ≡ filled_of name settings givens }
 {
     match name {
-        Name::Start => {
-            let call = Call::Start(settings, true);
-            Parsed::Call(call)
-        }
-        Name::Startup => Parsed::Bad,
-        Name::Update => Parsed::Bad,
-        Name::Reset => Parsed::Bad,
-        Name::Standby => Parsed::Bad,
-        Name::Settings => {
-            let request = Request::Settings(settings);
-            let call = Call::Ask(request, givens);
-            Parsed::Call(call)
-        }
-        Name::Status => Parsed::Bad,
-        Name::Not => Parsed::Bad,
+        Name::Start => Some(Call::Start(settings, true)),
+        Name::Settings => Some(Call::Ask(Request::Settings(settings), givens)),
+        _ => None,
     }
 }
 
 // A start and settings have to fill the last column, and no other call may.
-fn call_of(name: Name, last: &[u8], givens: Givens) -> Parsed
+#[tactic(auto, using(std::proofs::lemmas::Bool::Decides::nat_tests, crate::proofs::Laws::call_empty, crate::proofs::Laws::call_filled))]
+fn call_of(name: Name, last: &[u8], givens: Givens) -> Option<Call>
     ensures { result ≡ call_of name last.now givens }
 {
-    if last.len() == 0 {
-        let plain = request_of(name);
-        let Plain::Is(request) = plain else {
-            return Parsed::Bad;
-        };
-        let call = Call::Ask(request, givens);
-        return Parsed::Call(call);
+    if last.is_empty() {
+        return Some(Call::Ask(request_of(name)?, givens));
     }
-    let fields = given_field::settings_of(last);
-    let Fields::Is(settings) = fields else {
-        return Parsed::Bad;
-    };
-    filled_of(name, settings, givens)
+    filled_of(name, given_field::settings_of(last)?, givens)
 }
 
 // A line of at most 512 bytes and of nine columns that all fit.
-pub fn parse(s: &[u8]) -> Parsed
+#[tactic(auto, using(std::proofs::lemmas::Bool::Decides::nat_tests), unfolding(crate::specs::Trace::parsed_of))]
+pub fn parse(s: &[u8]) -> Option<Call>
     ensures { result ≡ parsed_of s.now }
 {
-    if 512 < s.len() {
-        return Parsed::Bad;
+    if 512 < s.len() || columns::count(s) != 9 || !reply_field::fits(columns::part(s, 7)) {
+        return None;
     }
-    let n = columns::count(s);
-    if n != 9 {
-        return Parsed::Bad;
-    }
-    let replies = columns::part(s, 7);
-    if reply_field::fits(replies) {
-        let given = givens_of(s);
-        let Given::Is(givens) = given else {
-            return Parsed::Bad;
-        };
-        let second = columns::part(s, 1);
-        let name = names::name_of(second);
-        let last = columns::part(s, 8);
-        call_of(name, last, givens)
-    } else {
-        Parsed::Bad
-    }
+    let givens = givens_of(s)?;
+    let name = names::name_of(columns::part(s, 1))?;
+    call_of(name, columns::part(s, 8), givens)
 }

@@ -2,15 +2,15 @@
 use Prim.Native.Nat.{ℕ}
 use mathlib.Core.Bool.{Bool}
 use lib.Ieee.{Float, lt}
+use Rattle.std.specs.Prelude.{Option, None, Some, Result, Ok, Err}
 use Rattle.bus.specs.declared.Note.{Note}
 use Rattle.bus.specs.Run.{Run, done}
 use Rattle.ads7924.specs.declared.Four.{Four}
-use Rattle.ads7924.specs.declared.Readings.{Readings}
-use Rattle.ads7924.specs.declared.Readings.TheVariants.{Volts, Bus as Unread}
 use Rattle.rf_channel.specs.declared.Action.{Action}
 use Rattle.rf_channel.specs.declared.Action.TheVariants.{Nothing, StartPowerup, ResetInterlocks, EnableOutput, StartDisable, HandleFault, HandleTrip, DisableRfSwitch}
 use Rattle.rf_channel.specs.declared.ChannelSettings.{ChannelSettings}
-use Rattle.rf_channel.specs.declared.ChannelState.{ChannelState}
+use Rattle.rf_channel.specs.declared.ChannelFault.{ChannelFault}
+use Rattle.rf_channel.specs.declared.Interlock.{Interlock}
 use Rattle.rf_channel.specs.declared.Events.{Events}
 use Rattle.rf_channel.specs.declared.Plan.{Plan}
 use Rattle.rf_channel.specs.declared.Plan.TheVariants.{NoTransition, GuardFalse, Go}
@@ -19,33 +19,17 @@ use Rattle.rf_channel.specs.Guards.{lowest}
 use Rattle.rf_plan.specs.Table.{table}
 use Rattle.rf_plan.specs.Plan.{planned}
 use Rattle.rf_machine.specs.declared.Cause.{Cause}
-use Rattle.rf_machine.specs.declared.Effect.{Effect}
-use Rattle.rf_machine.specs.declared.Effect.TheVariants.{Did, Stop}
-use Rattle.rf_machine.specs.declared.Step.{Step}
-use Rattle.rf_machine.specs.declared.Step.TheVariants.{Went, Stopped as Stops}
 use Rattle.rf_machine.specs.declared.Told.{Told}
 use Rattle.rf_machine.specs.Hardware.{on_did, ◌and_then◌, pin, pinch_off, start_powerup, reset_interlocks, disable_rf_switch, start_disable, enable_output, hardware}
 use Rattle.rf_machine.specs.Event.{carry, process_event}
-use Rattle.rf_devices.specs.declared.Power.{Power}
-use Rattle.rf_devices.specs.declared.Power.TheVariants.{Dbm, Bus as Unheard}
 use Rattle.rf_call.specs.declared.Answer.{Answer}
 use Rattle.rf_call.specs.declared.Givens.{Givens}
 use Rattle.rf_call.specs.declared.Outcome.{Outcome}
 use Rattle.rf_call.specs.declared.Outcome.TheVariants.{Live}
-use Rattle.rf_call.specs.declared.Temperature.{Temperature}
-use Rattle.rf_call.specs.declared.Temperature.TheVariants.{Celsius, Failed as NotMeasured}
 use Rattle.rf_call.specs.Calls.{halting, after_event, answering, quietly}
-use Rattle.rf_tests.specs.declared.Check.{Check}
-use Rattle.rf_tests.specs.declared.Check.TheVariants.{Fine, Found, Failed}
-use Rattle.rf_tests.specs.declared.Overdrive.{Overdrive}
-use Rattle.rf_tests.specs.declared.Overdrive.TheVariants.{Quiet as NoTrip, Source}
 use Rattle.rf_tests.specs.Tests.{check_faults, overdrive_source, is_enabled}
-use Rattle.rf_update.specs.declared.Stage.{Stage}
-use Rattle.rf_update.specs.declared.Stage.TheVariants.{Going, Stopped}
 use Rattle.rf_update.specs.Update.{raising, on_check, fault_stage, on_overdrive, on_power, trip_stage, after_stage, finishing, updating}
 use Rattle.rf_status.specs.declared.Detectors.{Detectors}
-use Rattle.rf_status.specs.declared.Measures.{Measures}
-use Rattle.rf_status.specs.declared.Measures.TheVariants.{All, Stopped as NotAll}
 use Rattle.rf_status.specs.declared.Numbers.{Numbers}
 use Rattle.rf_status.specs.Status.{on_input, on_temperature, on_voltages, measuring, on_measures, getting_status}
 use Rattle.rf_start.specs.declared.Presence.{Presence}
@@ -54,6 +38,7 @@ use Rattle.rf_start.specs.Start.{beginning, monitor, preparing, on_present, modu
 use Rattle.wire_theorems.specs.Wire.{Writes}
 use Rattle.wire_theorems.proofs.Each.{Each, each_done, each_cond, each_bind, each_mapped}
 use Rattle.wire_theorems.proofs.Chips.{quiet_note, quiet_mcp3221, quiet_dac7571, quiet_ad5627_opening, quiet_ads7924_opening, quiet_ads7924, quiet_ads7924_all, quiet_ads7924_alarm, quiet_bias, quiet_input}
+use Rattle.bus.specs.declared.Failed.{Failed}
 
 module _ (P : ℕ → ℕ → ℕ → Type 0) where
   -- ---- the hardware
@@ -66,12 +51,12 @@ module _ (P : ℕ → ℕ → ℕ → Type 0) where
   unfolding pinch_off
   quiet_pinch = each_mapped _ _ (quiet_dac7571 P _)
 
-  on_did_lem : (k : Run Effect) → Each (Writes P) k → (e : Effect) → Each (Writes P) (on_did k e)
+  on_did_lem : (k : Run (Result (Unit {0}) Cause)) → Each (Writes P) k → (e : Result (Unit {0}) Cause) → Each (Writes P) (on_did k e)
   unfolding on_did
-  on_did_lem k h Did = h
-  on_did_lem k h (Stop cause) = each_done _
+  on_did_lem k h (Ok tt) = h
+  on_did_lem k h (Err cause) = each_done _
 
-  pub quiet_then : (m k : Run Effect) → Each (Writes P) m → Each (Writes P) k → Each (Writes P) (m and_then k)
+  pub quiet_then : (m k : Run (Result (Unit {0}) Cause)) → Each (Writes P) m → Each (Writes P) k → Each (Writes P) (m and_then k)
   quiet_then m k g h = each_bind m (on_did k) g (on_did_lem k h)
 
   quiet_disable : Each (Writes P) start_disable
@@ -105,10 +90,10 @@ module _ (P : ℕ → ℕ → ℕ → Type 0) where
   unfolding halting
   quiet_halting cause = each_bind _ _ (quiet_note P _) (λ u. each_bind _ _ (quiet_note P _) (λ v. each_done _))
 
-  after_event_lem : (k : RfChannel → Told → Answer) (x : Step) → Each (Writes P) (after_event (λ c told. done (Live c (k c told))) x)
+  after_event_lem : (k : RfChannel → Told → Answer) (x : Result (RfChannel × Told) Cause) → Each (Writes P) (after_event (λ c told. done (Live c (k c told))) x)
   unfolding after_event
-  after_event_lem k (Went c told) = each_done _
-  after_event_lem k (Stops cause) = quiet_halting cause
+  after_event_lem k (Ok (c, told)) = each_done _
+  after_event_lem k (Err cause) = quiet_halting cause
 
   pub quiet_answering : (answer : Told → Answer) (e : Events) (c : RfChannel) (g : Givens) → Each (Writes P) (answering answer e c g)
   unfolding answering
@@ -124,26 +109,26 @@ module _ (P : ℕ → ℕ → ℕ → Type 0) where
   unfolding raising
   quiet_raising c e g = each_mapped _ _ (quiet_event c e _ _)
 
-  on_check_lem : (c : RfChannel) (g : Givens) (x : Check) → Each (Writes P) (on_check c g x)
+  on_check_lem : (c : RfChannel) (g : Givens) (x : Result (Option ChannelFault) Cause) → Each (Writes P) (on_check c g x)
   unfolding on_check
-  on_check_lem c g Fine = each_done _
-  on_check_lem c g (Found fault) = quiet_raising c _ g
-  on_check_lem c g Failed = each_done _
+  on_check_lem c g (Ok None) = each_done _
+  on_check_lem c g (Ok (Some fault)) = quiet_raising c _ g
+  on_check_lem c g (Err cause) = each_done _
 
-  on_overdrive_lem : (c : RfChannel) (g : Givens) (x : Overdrive) → Each (Writes P) (on_overdrive c g x)
+  on_overdrive_lem : (c : RfChannel) (g : Givens) (x : Option Interlock) → Each (Writes P) (on_overdrive c g x)
   unfolding on_overdrive
-  on_overdrive_lem c g NoTrip = each_done _
-  on_overdrive_lem c g (Source interlock) = quiet_raising c _ g
+  on_overdrive_lem c g None = each_done _
+  on_overdrive_lem c g (Some interlock) = quiet_raising c _ g
 
-  on_power_lem : (c : RfChannel) (g : Givens) (x : Power) → Each (Writes P) (on_power c g x)
+  on_power_lem : (c : RfChannel) (g : Givens) (x : Result Float Failed) → Each (Writes P) (on_power c g x)
   unfolding on_power
-  on_power_lem c g (Dbm power) = on_overdrive_lem c g (overdrive_source power g)
-  on_power_lem c g Unheard = each_done _
+  on_power_lem c g (Ok power) = on_overdrive_lem c g (overdrive_source power g)
+  on_power_lem c g (Err e) = each_done _
 
-  on_stage : (k : RfChannel → Run Outcome) → ((c : RfChannel) → Each (Writes P) (k c)) → (x : Stage) → Each (Writes P) (after_stage k x)
+  on_stage : (k : RfChannel → Run Outcome) → ((c : RfChannel) → Each (Writes P) (k c)) → (x : Result RfChannel Cause) → Each (Writes P) (after_stage k x)
   unfolding after_stage
-  on_stage k f (Going c) = f c
-  on_stage k f (Stopped cause) = quiet_halting cause
+  on_stage k f (Ok c) = f c
+  on_stage k f (Err cause) = quiet_halting cause
 
   quiet_finishing : (g : Givens) (c : RfChannel) → Each (Writes P) (finishing g c)
   unfolding finishing
@@ -157,25 +142,25 @@ module _ (P : ℕ → ℕ → ℕ → Type 0) where
 
   -- ---- the status
 
-  on_input_lem : (n : Float → Numbers) (x : Power) → Each (Writes P) (on_input n x)
+  on_input_lem : (n : Float → Numbers) (x : Result Float Failed) → Each (Writes P) (on_input n x)
   unfolding on_input
-  on_input_lem n (Dbm power) = each_done _
-  on_input_lem n Unheard = each_done _
+  on_input_lem n (Ok power) = each_done _
+  on_input_lem n (Err e) = each_done _
 
-  on_temperature_lem : (s : ChannelSettings) (d : Detectors) (four : Four) (t : Temperature) → Each (Writes P) (on_temperature s d four t)
+  on_temperature_lem : (s : ChannelSettings) (d : Detectors) (four : Four) (t : Option Float) → Each (Writes P) (on_temperature s d four t)
   unfolding on_temperature
-  on_temperature_lem s d four (Celsius t) = each_bind _ _ (quiet_input P s) (on_input_lem _)
-  on_temperature_lem s d four NotMeasured = each_done _
+  on_temperature_lem s d four (Some t) = each_bind _ _ (quiet_input P s) (on_input_lem _)
+  on_temperature_lem s d four None = each_done _
 
-  on_voltages_lem : (s : ChannelSettings) (d : Detectors) (t : Temperature) (x : Readings) → Each (Writes P) (on_voltages s d t x)
+  on_voltages_lem : (s : ChannelSettings) (d : Detectors) (t : Option Float) (x : Result Four Failed) → Each (Writes P) (on_voltages s d t x)
   unfolding on_voltages
-  on_voltages_lem s d t (Volts four) = on_temperature_lem s d four t
-  on_voltages_lem s d t Unread = each_done _
+  on_voltages_lem s d t (Ok four) = on_temperature_lem s d four t
+  on_voltages_lem s d t (Err e) = each_done _
 
-  on_measures_lem : (c : RfChannel) (g : Givens) (x : Measures) → Each (Writes P) (on_measures c g x)
+  on_measures_lem : (c : RfChannel) (g : Givens) (x : Result Numbers Cause) → Each (Writes P) (on_measures c g x)
   unfolding on_measures
-  on_measures_lem c g (All n) = each_done _
-  on_measures_lem c g (NotAll cause) = quiet_halting cause
+  on_measures_lem c g (Ok n) = each_done _
+  on_measures_lem c g (Err cause) = quiet_halting cause
 
   pub quiet_status : (c : RfChannel) (d : Detectors) (g : Givens) → Each (Writes P) (getting_status c d g)
   unfolding getting_status measuring

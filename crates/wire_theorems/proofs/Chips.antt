@@ -1,12 +1,11 @@
 -- The chips: a code goes to the interlock chip where its conversion has one, and no other row writes a code to it. Assumes nothing.
+use Rattle.std.specs.Prelude.{Option, Some, None}
 use Prim.Native.Nat.{ℕ, ◌*◌, ◌/◌, ◌%◌}
 use native.Mathlib.Omega.{arith}
 use mathlib.Core.Path.{◌≡◌, refl}
 use lib.Ieee.{Float}
 use Rattle.bus.specs.declared.Note.{Note}
 use Rattle.bus.specs.Run.{note}
-use Rattle.conversions.specs.declared.Conversion.{Conversion}
-use Rattle.conversions.specs.declared.Conversion.TheVariants.{Code, Range}
 use Rattle.conversions.specs.Codes.{dac7571_code}
 use Rattle.mcp3221.specs.Voltage as Mcp3221
 use Rattle.dac7571.specs.Voltage as Dac7571
@@ -30,10 +29,10 @@ module _ (P : ℕ → ℕ → ℕ → Type 0) where
   unfolding Mcp3221.get_voltage Writes
   quiet_mcp3221 supply = each_try _ _ _ (λ slot g. tt) (λ d. each_done _)
 
-  bias_code : (x : Conversion) → Each (Writes P) (Dac7571.send_code x)
+  bias_code : (x : Option ℕ) → Each (Writes P) (Dac7571.send_code x)
   unfolding Writes
-  bias_code (Code code) = each_try _ _ _ (λ slot g. tt) (λ d. each_done _)
-  bias_code Range = each_done _
+  bias_code (Some code) = each_try _ _ _ (λ slot g. tt) (λ d. each_done _)
+  bias_code None = each_done _
 
   pub quiet_dac7571 : (v : Float) → Each (Writes P) (Dac7571.set_voltage v)
   unfolding Dac7571.set_voltage
@@ -44,10 +43,10 @@ module _ (P : ℕ → ℕ → ℕ → Type 0) where
   unfolding Ad5627Opening.opening Writes
   quiet_ad5627_opening = each_try _ _ _ (λ slot g e f. absurd (omega arith)) (λ d. each_try _ _ _ (λ slot g e f. absurd (omega arith)) (λ e. each_done _))
 
-  pub each_ad5627 : (dac : Dac) (x : Conversion) → ((code : ℕ) → x ≡ Code code → P (Ad5627.dac_byte dac) (16 * code / 256) (16 * code % 256)) → Each (Writes P) (Ad5627.send_code dac x)
+  pub each_ad5627 : (dac : Dac) (x : Option ℕ) → ((code : ℕ) → x ≡ Some code → P (Ad5627.dac_byte dac) (16 * code / 256) (16 * code % 256)) → Each (Writes P) (Ad5627.send_code dac x)
   unfolding Writes
-  each_ad5627 dac (Code code) h = each_try _ _ _ (λ slot g e f. h code refl) (λ d. each_done _)
-  each_ad5627 dac Range h = each_done _
+  each_ad5627 dac (Some code) h = each_try _ _ _ (λ slot g e f. h code refl) (λ d. each_done _)
+  each_ad5627 dac None h = each_done _
 
   pub quiet_ads7924_opening : Each (Writes P) Ads7924.opening
   unfolding Ads7924.opening Writes

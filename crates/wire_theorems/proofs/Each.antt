@@ -1,15 +1,15 @@
 -- A judgement on runs: each row satisfies P. Rules for the pieces of a run. Assumes nothing.
+use Rattle.std.specs.Prelude.{Result, Ok, Err}
 use Prim.Native.Nat.{ℕ}
 use mathlib.Core.Bool.{Bool, true, false, cond}
 use mathlib.Core.List.{List, [], ◌∷◌, ◌++◌}
 use Rattle.bus.specs.declared.Eight.{Eight}
-use Rattle.bus.specs.declared.Got.{Got}
-use Rattle.bus.specs.declared.Got.TheVariants.{Acked, Failed}
 use Rattle.bus.specs.declared.Note.{Note}
 use Rattle.bus.specs.declared.Transfer.{Transfer}
 use Rattle.bus.specs.Rows.{Row, noted, moved}
 use Rattle.bus.specs.Run.{Ran, Run, done, bind, mapped, note, transfer, on_got, try}
 use Rattle.wire_theorems.specs.Wire.{Every}
+use Rattle.bus.specs.declared.Failed.{Failed}
 
 pub record Told {A : Type 0} (P : Row → Type 0) (x : Ran A) : Type 0 where
   pub holds : Every P x.rows
@@ -44,15 +44,15 @@ pub each_note : {P : Row → Type 0} (n : Note) → ((slot : ℕ) → P (noted s
 unfolding note Every
 each_note n h rs slot taken = record { holds = (h slot, tt) }
 
-pub each_transfer : {P : Row → Type 0} (t : Transfer) → ((slot : ℕ) (g : Got) → P (moved slot t g)) → Each P (transfer t)
+pub each_transfer : {P : Row → Type 0} (t : Transfer) → ((slot : ℕ) (g : Result Eight Failed) → P (moved slot t g)) → Each P (transfer t)
 unfolding transfer Every
 each_transfer t h rs slot taken = record { holds = (h slot _, tt) }
 
-module _ {A : Type 0} {P : Row → Type 0} (t : Transfer) (a : A) (k : Eight → Run A) (row : (slot : ℕ) (g : Got) → P (moved slot t g)) (more : (d : Eight) → Each P (k d)) where
-  each_got : (g : Got) → Each P (on_got a k g)
+module _ {A : Type 0} {P : Row → Type 0} (t : Transfer) (a : A) (k : Eight → Run A) (row : (slot : ℕ) (g : Result Eight Failed) → P (moved slot t g)) (more : (d : Eight) → Each P (k d)) where
+  each_got : (g : Result Eight Failed) → Each P (on_got a k g)
   unfolding on_got
-  each_got (Acked d) = more d
-  each_got Failed = each_done a
+  each_got (Ok d) = more d
+  each_got (Err e) = each_done a
 
   pub each_try : Each P (try t a k)
   each_try = each_bind (transfer t) (on_got a k) (each_transfer t row) each_got

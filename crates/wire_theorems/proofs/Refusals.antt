@@ -6,10 +6,9 @@ use mathlib.Core.Logic.{◌⊎◌, inl, inr}
 use mathlib.Core.List.{List}
 use lib.Dec.{eqb, lit<, lit≤}
 use lib.Ieee.{Float, round, neg, fits}
+use Rattle.std.specs.Prelude.{Option, None, Some, Result, Ok, Err}
 use Rattle.steps.specs.Steps.{magnitude, negative}
 use Rattle.linear_transformation.specs.declared.LinearTransformation.{LinearTransformation}
-use Rattle.conversions.specs.declared.Conversion.{Conversion}
-use Rattle.conversions.specs.declared.Conversion.TheVariants as C
 use Rattle.conversions.specs.Codes.{dac7571_code}
 use Rattle.interlock.specs.Level.{level_code}
 use Rattle.interlock.specs.Demand3.{Given, OutOfRange, Answers}
@@ -17,25 +16,14 @@ use Rattle.interlock.proofs.Demand3.{demand_3}
 use Rattle.bus.specs.declared.Note.TheVariants.{SignalOn, EnablePower}
 use Rattle.bus.specs.Rows.{Row}
 use Rattle.bus.specs.Run.{Run, done, mapped, note}
-use Rattle.dac7571.specs.declared.Output as Bo
-use Rattle.dac7571.specs.declared.Output.TheVariants as B
 use Rattle.ad5627.specs.declared.Dac.{Dac}
 use Rattle.ad5627.specs.declared.Dac.TheVariants.{A, B}
 use Rattle.ad5627.specs.Voltage.{send_code}
-use Rattle.ads7924.specs.declared.Alarm as Al
-use Rattle.ads7924.specs.declared.Alarm.TheVariants as M
-use Rattle.ads7924.specs.declared.Opening as Op
-use Rattle.ads7924.specs.declared.Opening.TheVariants as O
-use Rattle.ads7924.specs.declared.Reading as Re
-use Rattle.ads7924.specs.declared.Reading.TheVariants as R
+use Rattle.rf_channel.specs.declared.Events.{Events}
 use Rattle.rf_channel.specs.declared.ChannelSettings.{ChannelSettings}
 use Rattle.rf_channel.specs.declared.RfChannel.{RfChannel}
 use Rattle.rf_machine.specs.declared.Cause.{Cause}
 use Rattle.rf_machine.specs.declared.Cause.TheVariants as K
-use Rattle.rf_machine.specs.declared.Effect.{Effect}
-use Rattle.rf_machine.specs.declared.Effect.TheVariants.{Did, Stop}
-use Rattle.rf_machine.specs.declared.Step.{Step}
-use Rattle.rf_machine.specs.declared.Step.TheVariants.{Went, Stopped}
 use Rattle.rf_machine.specs.Hardware.{on_did, ◌and_then◌, pin, pinched, pinch_off}
 use Rattle.rf_machine.specs.Event.{process_event}
 use Rattle.rf_machine.proofs.Gives.{Gives, gives_any, gives_done, gives_cond, gives_bind, gives_mapped, gives_try}
@@ -48,16 +36,10 @@ use Rattle.rf_call.specs.declared.Outcome.TheVariants.{Live, Absent, Halted}
 use Rattle.rf_call.specs.declared.Report.TheVariants.{Plain}
 use Rattle.rf_call.specs.Calls.{halting, or_halt, after_event, answering, quietly}
 use Rattle.rf_changes.specs.declared.Changes.{Changes}
-use Rattle.rf_changes.specs.declared.Follow.{Follow}
-use Rattle.rf_changes.specs.declared.Follow.TheVariants.{Nothing, Raise}
 use Rattle.rf_changes.specs.Changes.{same, changes_of, event_of}
-use Rattle.rf_settings.specs.declared.Applied.{Applied}
-use Rattle.rf_settings.specs.declared.Applied.TheVariants.{Ok, Err}
-use Rattle.rf_settings.specs.declared.Written.{Written}
-use Rattle.rf_settings.specs.declared.Written.TheVariants.{Fine, Failed}
 use Rattle.rf_settings.specs.declared.Wrong.{Wrong}
 use Rattle.rf_settings.specs.declared.Wrong.TheVariants as W
-use Rattle.rf_settings.specs.Settings.{write_changes, applied_to, apply_settings, on_follow, following, refusing, on_applied, handle_settings}
+use Rattle.rf_settings.specs.Settings.{applied_to, apply_settings, on_follow, following, refusing, on_applied, handle_settings}
 use Rattle.rf_settings.specs.Reasons.{Uncoded, output, reflected, bias, Reason, full_line, full_level}
 use Rattle.rf_settings.proofs.Reasons.{reasons}
 use Rattle.rf_settings.proofs.Impostors.{full_code}
@@ -68,13 +50,17 @@ use Rattle.rf_calls.specs.Requests.{requested}
 use Rattle.wire_theorems.specs.Wire.{thirty}
 use Rattle.wire_theorems.specs.Refusals.{Refusable, ALevel, RefusedForRange, FullScale}
 use Rattle.wire_theorems.proofs.Wire.{thirty_is}
+use Rattle.rf_machine.specs.declared.Told.{Told}
+use Rattle.bus.specs.declared.Failed.{Failed}
+use Rattle.bus.specs.declared.Error.{Error}
+use Rattle.bus.specs.declared.Error.TheVariants as Chip
 
 -- ---- a level without a code is one that demand 3 lets be refused
 
-refusable : (l : LinearTransformation) (level : Float) → level_code l level ≡ C.Range → Refusable l level
-refusable l level e g = subst (λ (x : Conversion). Answers l level x) e (demand_3 l level g)
+refusable : (l : LinearTransformation) (level : Float) → level_code l level ≡ None → Refusable l level
+refusable l level e g = subst (λ (x : Option ℕ). Answers l level x) e (demand_3 l level g)
 
-refusable_30 : (l : LinearTransformation) → level_code l highest_reflected ≡ C.Range → Refusable l thirty
+refusable_30 : (l : LinearTransformation) → level_code l highest_reflected ≡ None → Refusable l thirty
 refusable_30 l e = subst (λ (x : Float). Refusable l x) thirty_is (refusable l highest_reflected e)
 
 -- ---- a halt
@@ -97,9 +83,9 @@ module _ (X : Type 0) where
   Because K.Level = Unit
   Because K.Bias = Unit
 
-  unfoldable Stops : Effect → Type 0
-  Stops Did = Unit
-  Stops (Stop cause) = Because cause
+  unfoldable Stops : Result (Unit {0}) Cause → Type 0
+  Stops (Ok tt) = Unit
+  Stops (Err cause) = Because cause
 
   unfoldable Halts : Outcome → Type 0
   Halts (Live c answer) = Unit
@@ -108,50 +94,50 @@ module _ (X : Type 0) where
 
   -- ---- what the other chips answer
 
-  pinched_stops : (x : Bo.Output) → Stops (pinched x)
+  pinched_stops : (x : Result Float Error) → Stops (pinched x)
   unfolding Stops Because
-  pinched_stops (B.Volts v) = tt
-  pinched_stops B.Range = tt
-  pinched_stops B.Bus = tt
+  pinched_stops (Ok v) = tt
+  pinched_stops (Err Chip.Range) = tt
+  pinched_stops (Err Chip.Bus) = tt
 
-  ready_stops : (x : Op.Opening) → Stops (ready x)
+  ready_stops : (x : Result (Unit {0}) Failed) → Stops (ready x)
   unfolding Stops Because
-  ready_stops O.Ready = tt
-  ready_stops O.Bus = tt
+  ready_stops (Ok tt) = tt
+  ready_stops (Err e) = tt
 
-  heard_stops : (x : Re.Reading) → Stops (heard x)
+  heard_stops : (x : Result Float Failed) → Stops (heard x)
   unfolding Stops Because
-  heard_stops (R.Volts v) = tt
-  heard_stops R.Bus = tt
+  heard_stops (Ok v) = tt
+  heard_stops (Err e) = tt
 
-  no_alarm : (b : Bool) → Stops (cond b Did (Stop K.Alarm))
+  no_alarm : (b : Bool) → Stops (cond b (Ok tt) (Err K.Alarm))
   unfolding Stops Because
   no_alarm true = tt
   no_alarm false = tt
 
-  quiet_stops : (x : Al.Alarm) → Stops (quiet x)
+  quiet_stops : (x : Result ℕ Failed) → Stops (quiet x)
   unfolding Stops Because
-  quiet_stops (M.Mask mask) = no_alarm (eqb mask 0)
-  quiet_stops M.Bus = tt
+  quiet_stops (Ok mask) = no_alarm (eqb mask 0)
+  quiet_stops (Err e) = tt
 
   module _ (n : ℕ) where
     -- ---- one piece after another
 
-    stops_mapped : {B : Type 0} (f : B → Effect) (m : Run B) → ((b : B) → Stops (f b)) → Gives n (mapped f m) (λ rows e. Stops e)
+    stops_mapped : {B : Type 0} (f : B → Result (Unit {0}) Cause) (m : Run B) → ((b : B) → Stops (f b)) → Gives n (mapped f m) (λ rows e. Stops e)
     stops_mapped f m h = gives_mapped f m (gives_any m) (λ rows b u. h b)
 
-    on_did_lem : (k : Run Effect) → Gives n k (λ rows e. Stops e) → (rows : List Row) (e : Effect) → Stops e → Gives n (on_did k e) (λ more x. Stops x)
+    on_did_lem : (k : Run (Result (Unit {0}) Cause)) → Gives n k (λ rows e. Stops e) → (rows : List Row) (e : Result (Unit {0}) Cause) → Stops e → Gives n (on_did k e) (λ more x. Stops x)
     unfolding on_did
-    on_did_lem k h rows Did p = h
-    on_did_lem k h rows (Stop cause) p = gives_done _ p
+    on_did_lem k h rows (Ok tt) p = h
+    on_did_lem k h rows (Err cause) p = gives_done _ p
 
-    stops_then : (m k : Run Effect) → Gives n m (λ rows e. Stops e) → Gives n k (λ rows e. Stops e) → Gives n (m and_then k) (λ rows e. Stops e)
+    stops_then : (m k : Run (Result (Unit {0}) Cause)) → Gives n m (λ rows e. Stops e) → Gives n k (λ rows e. Stops e) → Gives n (m and_then k) (λ rows e. Stops e)
     stops_then m k g h = gives_bind m (on_did k) g (on_did_lem k h)
 
-    or_halt_lem : (k : Run Outcome) → Gives n k (λ rows o. Halts o) → (rows : List Row) (e : Effect) → Stops e → Gives n (or_halt k e) (λ more o. Halts o)
+    or_halt_lem : (k : Run Outcome) → Gives n k (λ rows o. Halts o) → (rows : List Row) (e : Result (Unit {0}) Cause) → Stops e → Gives n (or_halt k e) (λ more o. Halts o)
     unfolding or_halt Stops Halts
-    or_halt_lem k h rows Did p = h
-    or_halt_lem k h rows (Stop cause) p = halted Halts n cause p
+    or_halt_lem k h rows (Ok tt) p = h
+    or_halt_lem k h rows (Err cause) p = halted Halts n cause p
 
     if_present_lem : (k : Run Outcome) → Gives n k (λ rows o. Halts o) → (x : Presence) → Gives n (if_present k x) (λ rows o. Halts o)
     unfolding if_present Halts
@@ -166,10 +152,10 @@ module _ (X : Type 0) where
         stops_then _ _ (stops_then _ _ (stops_mapped _ _ (λ u. tt)) (stops_then _ _ (stops_mapped _ _ (λ u. tt)) (stops_mapped _ _ pinched_stops)))
         (stops_then _ _ (stops_mapped _ _ ready_stops) (stops_then _ _ (stops_mapped _ _ heard_stops) (stops_mapped _ _ quiet_stops)))
 
-    level_stops : (dac : Dac) (x : Conversion) → (x ≡ C.Range → X) → Gives n (mapped level_set (send_code dac x)) (λ rows e. Stops e)
+    level_stops : (dac : Dac) (x : Option ℕ) → (x ≡ None → X) → Gives n (mapped level_set (send_code dac x)) (λ rows e. Stops e)
     unfolding Stops Because
-    level_stops dac C.Range h = gives_mapped level_set _ (gives_done {P = λ rows o. Stops (level_set o)} _ (h refl)) (λ rows o p. p)
-    level_stops dac (C.Code code) h = gives_mapped level_set _ (gives_try (λ rows o. Stops (level_set o)) _ _ _ tt (λ d. gives_done _ tt)) (λ rows o p. p)
+    level_stops dac None h = gives_mapped level_set _ (gives_done {P = λ rows o. Stops (level_set o)} _ (h refl)) (λ rows o p. p)
+    level_stops dac (Some code) h = gives_mapped level_set _ (gives_try (λ rows o. Stops (level_set o)) _ _ _ tt (λ d. gives_done _ tt)) (λ rows o p. p)
 
 halts_starting : (s : ChannelSettings) (present : Bool) (n : ℕ) → Gives n (starting s present) (λ rows o. Halts (ALevel s) o)
 unfolding starting settling levels apply_output set_reflected Halts
@@ -205,20 +191,20 @@ module _ (X : Type 0) where
   Refuses W.Chip = Unit
   Refuses W.Bus = Unit
 
-  unfoldable Took : Applied → Type 0
+  unfoldable Took : Result RfChannel (RfChannel × Wrong) → Type 0
   Took (Ok c) = Unit
-  Took (Err c wrong) = Refuses wrong
+  Took (Err (c, wrong)) = Refuses wrong
 
   module _ (n : ℕ) where
-    after_event_lem : (x : Step) → Gives n (after_event (λ c told. done (Live c (A.Done Plain))) x) (λ rows o. Says o)
+    after_event_lem : (x : Result (RfChannel × Told) Cause) → Gives n (after_event (λ c told. done (Live c (A.Done Plain))) x) (λ rows o. Says o)
     unfolding after_event Says For
-    after_event_lem (Went c told) = gives_done _ tt
-    after_event_lem (Stopped cause) = halted Says n cause tt
+    after_event_lem (Ok (c, told)) = gives_done _ tt
+    after_event_lem (Err cause) = halted Says n cause tt
 
-    on_follow_lem : (c : RfChannel) (g : Givens) (x : Follow) → Gives n (on_follow c g x) (λ rows o. Says o)
+    on_follow_lem : (c : RfChannel) (g : Givens) (x : Option Events) → Gives n (on_follow c g x) (λ rows o. Says o)
     unfolding on_follow quietly answering Says For
-    on_follow_lem c g Nothing = gives_done _ tt
-    on_follow_lem c g (Raise e) = gives_bind (process_event c e g.tick g.watchdog) _ (gives_any (process_event c e g.tick g.watchdog)) (λ rows x t. after_event_lem x)
+    on_follow_lem c g None = gives_done _ tt
+    on_follow_lem c g (Some e) = gives_bind (process_event c e g.tick g.watchdog) _ (gives_any (process_event c e g.tick g.watchdog)) (λ rows x t. after_event_lem x)
 
     on_wrong : (c : RfChannel) (wrong : Wrong) → Refuses wrong → Gives n (refusing c wrong) (λ rows o. Says o)
     unfolding refusing Refuses Says For
@@ -226,25 +212,25 @@ module _ (X : Type 0) where
     on_wrong c W.Chip h = gives_done _ tt
     on_wrong c W.Bus h = halted Says n _ tt
 
-    on_applied_lem : (s : ChannelSettings) (g : Givens) (rows : List Row) (x : Applied) → Took x → Gives n (on_applied s.state g x) (λ more o. Says o)
+    on_applied_lem : (s : ChannelSettings) (g : Givens) (rows : List Row) (x : Result RfChannel (RfChannel × Wrong)) → Took x → Gives n (on_applied s.state g x) (λ more o. Says o)
     unfolding on_applied following Took
     on_applied_lem s g rows (Ok c) h = on_follow_lem c g (event_of c.state s.state)
-    on_applied_lem s g rows (Err c wrong) h = on_wrong c wrong h
+    on_applied_lem s g rows (Err (c, wrong)) h = on_wrong c wrong h
 
 abbrev Reasons : ChannelSettings → Type 0
-Reasons s = ALevel s ⊎ (dac7571_code (neg s.bias_voltage) ≡ C.Range)
+Reasons s = ALevel s ⊎ (dac7571_code (neg s.bias_voltage) ≡ None)
 
 excuse : (due : Changes) (s : ChannelSettings) → Uncoded due s → Reasons s
 excuse due s (output d e) = inl (inl (refusable _ _ e))
 excuse due s (reflected d e) = inl (inr (refusable_30 _ e))
 excuse due s (bias d e) = inr e
 
-took : (due : Changes) (s : ChannelSettings) (n : ℕ) (c : RfChannel) (rows : List Row) (w : Written) → Reason due s n rows w → Took (Reasons s) (applied_to c w)
+took : (due : Changes) (s : ChannelSettings) (n : ℕ) (c : RfChannel) (rows : List Row) (w : Result (Unit {0}) Wrong) → Reason due s n rows w → Took (Reasons s) (applied_to c w)
 unfolding Reason Took Refuses
-took due s n c rows Fine h = tt
-took due s n c rows (Failed W.Range) h = excuse due s h
-took due s n c rows (Failed W.Chip) h = tt
-took due s n c rows (Failed W.Bus) h = tt
+took due s n c rows (Ok tt) h = tt
+took due s n c rows (Err W.Range) h = excuse due s h
+took due s n c rows (Err W.Chip) h = tt
+took due s n c rows (Err W.Bus) h = tt
 
 says_settings : (c : RfChannel) (s : ChannelSettings) (g : Givens) (n : ℕ) → Gives n (handle_settings c s g) (λ rows o. Says (Reasons s) o)
 unfolding handle_settings apply_settings Took
@@ -271,4 +257,4 @@ full_in_range (inl h) = unfold round neg magnitude negative in h.lt
 full_in_range (inr h) = unfold round neg magnitude negative in h.lt
 
 pub full_scale : FullScale
-full_scale = record { is_sent = full_code; is_not_refused = λ convert e d. full_in_range (subst (λ (x : Conversion). Answers full_line full_level x) e (d full_line full_level full_given)) }
+full_scale = record { is_sent = full_code; is_not_refused = λ convert e d. full_in_range (subst (λ (x : Option ℕ). Answers full_line full_level x) e (d full_line full_level full_given)) }

@@ -5,29 +5,21 @@ use mathlib.Core.Path.{◌≡◌, refl, subst}
 use mathlib.Core.Bool.{Bool}
 use mathlib.Core.Logic.{inl, inr}
 use lib.Ieee.{Float, of_bits, round}
+use Rattle.std.specs.Prelude.{Option, None, Some, Result, Ok, Err}
 use Rattle.linear_transformation.specs.declared.LinearTransformation.{LinearTransformation}
-use Rattle.conversions.specs.declared.Conversion.{Conversion}
-use Rattle.conversions.specs.declared.Conversion.TheVariants.{Code}
 use Rattle.interlock.specs.Level.{level_code}
 use Rattle.interlock.specs.Demand3.{Answers}
 use Rattle.interlock.proofs.Demand3.{demand_3}
-use Rattle.bus.specs.Run.{Run, done}
+use Rattle.bus.specs.Run.{Run}
+use Rattle.rf_channel.specs.declared.Events.{Events}
 use Rattle.rf_channel.specs.declared.ChannelSettings.{ChannelSettings}
 use Rattle.rf_channel.specs.declared.RfChannel.{RfChannel}
-use Rattle.rf_machine.specs.declared.Effect.{Effect}
-use Rattle.rf_machine.specs.declared.Effect.TheVariants.{Did, Stop}
 use Rattle.rf_devices.specs.Devices.{highest_reflected, apply_output, set_reflected}
 use Rattle.rf_call.specs.declared.Givens.{Givens}
 use Rattle.rf_call.specs.declared.Outcome.{Outcome}
 use Rattle.rf_call.specs.Calls.{or_halt, interlock_reset, handle_startup, standing}
 use Rattle.rf_changes.specs.declared.Changes.{Changes}
-use Rattle.rf_changes.specs.declared.Follow.{Follow}
-use Rattle.rf_changes.specs.declared.Follow.TheVariants.{Nothing, Raise}
 use Rattle.rf_changes.specs.Changes.{same, changes_of, event_of}
-use Rattle.rf_settings.specs.declared.Applied.{Applied}
-use Rattle.rf_settings.specs.declared.Applied.TheVariants.{Ok, Err}
-use Rattle.rf_settings.specs.declared.Written.{Written}
-use Rattle.rf_settings.specs.declared.Written.TheVariants.{Fine, Failed}
 use Rattle.rf_settings.specs.declared.Wrong.{Wrong}
 use Rattle.rf_settings.specs.declared.Wrong.TheVariants.{Range, Chip, Bus}
 use Rattle.rf_settings.specs.Settings.{on_fine, write_output, write_reflected, write_bias, write_changes, apply_settings, on_follow, following, refusing, on_applied, handle_settings}
@@ -42,11 +34,12 @@ use Rattle.wire_theorems.specs.Wire.{Writes, Carries, thirty, LevelOf, MayWrite,
 use Rattle.wire_theorems.proofs.Each.{Each, each_done, each_cond, each_bind, each_mapped}
 use Rattle.wire_theorems.proofs.Chips.{each_ad5627, quiet_bias}
 use Rattle.wire_theorems.proofs.Calls.{quiet_then, quiet_halting, quiet_answering, quiet_quietly, quiet_updating, quiet_status, quiet_preparing, quiet_module}
+use Rattle.rf_machine.specs.declared.Cause.{Cause}
 
 -- ---- a level's code, in the bytes of its row
 
-carried : (output : ℕ) (l : LinearTransformation) (level : Float) (code : ℕ) → level_code l level ≡ Code code → Carries output l level output (16 * code / 256) (16 * code % 256)
-carried output l level code e = record { code = code; to = refl; bytes = omega arith; is = e; close = λ g. subst (λ (x : Conversion). Answers l level x) e (demand_3 l level g) }
+carried : (output : ℕ) (l : LinearTransformation) (level : Float) (code : ℕ) → level_code l level ≡ Some code → Carries output l level output (16 * code / 256) (16 * code % 256)
+carried output l level code e = record { code = code; to = refl; bytes = omega arith; is = e; close = λ g. subst (λ (x : Option ℕ). Answers l level x) e (demand_3 l level g) }
 
 -- 30.0 is the level of the reflected power
 pub thirty_is : highest_reflected ≡ thirty
@@ -67,10 +60,10 @@ module _ (s : ChannelSettings) where
 
   -- ---- the start
 
-  on_effect : (k : Run Outcome) → Sent k → (e : Effect) → Sent (or_halt k e)
+  on_effect : (k : Run Outcome) → Sent k → (e : Result (Unit {0}) Cause) → Sent (or_halt k e)
   unfolding or_halt
-  on_effect k h Did = h
-  on_effect k h (Stop cause) = quiet_halting (LevelOf s) cause
+  on_effect k h (Ok tt) = h
+  on_effect k h (Err cause) = quiet_halting (LevelOf s) cause
 
   on_presence : (k : Run Outcome) → Sent k → (x : Presence) → Sent (if_present k x)
   unfolding if_present
@@ -85,10 +78,10 @@ module _ (s : ChannelSettings) where
 
   -- ---- new settings
 
-  on_fine_lem : (k : Run Written) → Sent k → (w : Written) → Sent (on_fine k w)
+  on_fine_lem : (k : Run (Result (Unit {0}) Wrong)) → Sent k → (w : Result (Unit {0}) Wrong) → Sent (on_fine k w)
   unfolding on_fine
-  on_fine_lem k h Fine = h
-  on_fine_lem k h (Failed wrong) = each_done _
+  on_fine_lem k h (Ok tt) = h
+  on_fine_lem k h (Err wrong) = each_done _
 
   sent_changes : (due : Changes) → Sent (write_changes due s)
   unfolding write_changes write_output write_reflected write_bias
@@ -98,10 +91,10 @@ module _ (s : ChannelSettings) where
       (each_bind _ _ (each_cond due.reflected (each_mapped _ _ sent_reflected) (each_done _))
       (on_fine_lem _ (each_cond due.bias (each_mapped _ _ (quiet_bias (LevelOf s) s)) (each_done _)))))
 
-  on_follow_lem : (c : RfChannel) (g : Givens) (x : Follow) → Sent (on_follow c g x)
+  on_follow_lem : (c : RfChannel) (g : Givens) (x : Option Events) → Sent (on_follow c g x)
   unfolding on_follow
-  on_follow_lem c g Nothing = each_done _
-  on_follow_lem c g (Raise e) = quiet_quietly (LevelOf s) e c g
+  on_follow_lem c g None = each_done _
+  on_follow_lem c g (Some e) = quiet_quietly (LevelOf s) e c g
 
   on_wrong : (c : RfChannel) (wrong : Wrong) → Sent (refusing c wrong)
   unfolding refusing
@@ -109,10 +102,10 @@ module _ (s : ChannelSettings) where
   on_wrong c Chip = each_done _
   on_wrong c Bus = quiet_halting (LevelOf s) _
 
-  on_applied_lem : (g : Givens) (x : Applied) → Sent (on_applied s.state g x)
+  on_applied_lem : (g : Givens) (x : Result RfChannel (RfChannel × Wrong)) → Sent (on_applied s.state g x)
   unfolding on_applied following
   on_applied_lem g (Ok c) = on_follow_lem c g (event_of c.state s.state)
-  on_applied_lem g (Err c wrong) = on_wrong c wrong
+  on_applied_lem g (Err (c, wrong)) = on_wrong c wrong
 
   sent_settings : (c : RfChannel) (g : Givens) → Sent (handle_settings c s g)
   unfolding handle_settings apply_settings

@@ -1,9 +1,7 @@
 -- For what a start may halt with cause 4 and new settings may be answered 11: a level whose count is below 0 or above 4096 - 1/1024, if demand 3's premises hold for it; and a bias that the bias chip has no code for. Definitions only.
-use Rattle.std.specs.Prelude.{ℕ, ◌≡◌, Bool, ◌⊎◌, List, Float}
+use Rattle.std.specs.Prelude.{ℕ, ◌≡◌, Bool, ◌⊎◌, List, Float, Option, Some, None}
 use Rattle.std.specs.Float.Ieee.{neg}
 use Rattle.linear_transformation.specs.declared.LinearTransformation.{LinearTransformation}
-use Rattle.conversions.specs.declared.Conversion.{Conversion}
-use Rattle.conversions.specs.declared.Conversion.TheVariants as C
 use Rattle.conversions.specs.Codes.{dac7571_code}
 use Rattle.interlock.specs.Level.{level_code}
 use Rattle.interlock.specs.Demand3.{Given, OutOfRange, Demand3}
@@ -31,11 +29,11 @@ pub record RefusedForRange : Type 0 where
   -- cause 4
   pub start : (s : ChannelSettings) (present : Bool) (replies : List ℕ) (slot taken : ℕ) → (starting s present replies slot taken).ans ≡ Halted Threshold → ALevel s
   -- answer 11
-  pub settings : (c c' : RfChannel) (s : ChannelSettings) (g : Givens) (replies : List ℕ) (slot taken : ℕ) → (requested c (Settings s) g replies slot taken).ans ≡ Live c' Range → ALevel s ⊎ (dac7571_code (neg s.bias_voltage) ≡ C.Range)
+  pub settings : (c c' : RfChannel) (s : ChannelSettings) (g : Givens) (replies : List ℕ) (slot taken : ℕ) → (requested c (Settings s) g replies slot taken).ans ≡ Live c' Range → ALevel s ⊎ (dac7571_code (neg s.bias_voltage) ≡ None)
 
 -- ---- the level of the highest code, 4095
 
 -- it is sent, and a conversion that refuses it is against demand 3
 pub record FullScale : Type 0 where
-  pub is_sent : level_code full_line full_level ≡ C.Code 4095
-  pub is_not_refused : (convert : LinearTransformation → Float → Conversion) → convert full_line full_level ≡ C.Range → Demand3 convert → ⊥
+  pub is_sent : level_code full_line full_level ≡ Some 4095
+  pub is_not_refused : (convert : LinearTransformation → Float → Option ℕ) → convert full_line full_level ≡ None → Demand3 convert → ⊥

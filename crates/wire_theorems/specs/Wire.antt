@@ -1,9 +1,8 @@
 -- What the interlock chip is sent: each row that writes a code to it, of any call, acknowledged or failed, carries the code of a trip level, and demand 3 holds of that code. Definitions only.
-use Rattle.std.specs.Prelude.{ℕ, ◌+◌, ◌*◌, ◌/◌, ◌≡◌, Bool, false, ◌⊎◌, List, [], ◌∷◌, Float}
+use Rattle.std.specs.Prelude.{ℕ, ◌+◌, ◌*◌, ◌/◌, ◌≡◌, Bool, false, ◌⊎◌, List, [], ◌∷◌, Float, Some}
 use Rattle.std.specs.Float.{binary32}
 use Rattle.std.specs.Float.Ieee.{round}
 use Rattle.linear_transformation.specs.declared.LinearTransformation.{LinearTransformation}
-use Rattle.conversions.specs.declared.Conversion.TheVariants.{Code}
 use Rattle.interlock.specs.Level.{level_code}
 use Rattle.interlock.specs.Demand3.{Given, Close}
 use Rattle.bus.specs.declared.Transfer.TheVariants.{Write2, Write3, WriteRead, Read}
@@ -12,7 +11,6 @@ use Rattle.bus.specs.Run.{Run}
 use Rattle.rf_channel.specs.declared.ChannelSettings.{ChannelSettings}
 use Rattle.rf_channel.specs.declared.RfChannel.{RfChannel}
 use Rattle.rf_call.specs.declared.Givens.{Givens}
-use Rattle.rf_call.specs.declared.Outcome.{Outcome}
 use Rattle.rf_start.specs.Start.{starting}
 use Rattle.rf_calls.specs.declared.Request.{Request}
 use Rattle.rf_calls.specs.declared.Request.TheVariants.{Startup, Update, Reset, Standby, Settings, Status}
@@ -43,7 +41,7 @@ pub record Carries (output : ℕ) (l : LinearTransformation) (level : Float) (fi
   pub code : ℕ
   pub to : first ≡ output
   pub bytes : 256 * high + low ≡ 16 * code
-  pub is : level_code l level ≡ Code code
+  pub is : level_code l level ≡ Some code
   pub close : Given l level → Close l level code
 
 -- 30.0 dBm

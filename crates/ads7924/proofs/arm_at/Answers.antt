@@ -1,36 +1,35 @@
 -- `ads7924::arm_at` meets its contract: each transfer failed or did not, and each way out is the run that the definition has there. Assumes nothing.
-use lib.Dec.{lit≤}
-use Rattle.bus.proofs.Runs.{does_done, does_more, does_fail, does_go, room_after, room_less}
+use mathlib.Core.Path.{refl}
+use Rattle.bus.proofs.Runs.{runs_lost, runs_got, runs_done, within, left, enough, erred}
 use Rattle.ads7924.specs.Calls.{arm}
 use Rattle.ads7924.proofs.arm_at.Goals as goal
 
-pub returns-in_default : goal.returns-in_default
+pub returns-in_err-transfer-clause-run : goal.returns-in_err-transfer-clause-run
 unfolding arm
-returns-in_default c = rw (c.not_armed.ensures, ← c.command_of-command.ensures) (does_more (does_fail _ c.run_transfer-limited.ensures c.in_default.is) (lit≤ tt) (lit≤ tt))
+returns-in_err-transfer-clause-run c = rw (← c.command_of.ensures) (within (runs_lost _ _ c.transfer.ensures.run c.in_err-transfer.was (erred c.from_residual.ensures)) tt)
 
-pub read_registers-read-requires : goal.read_registers-read-requires
-read_registers-read-requires c = room_after c.run_transfer-limited.ensures (room_less c.requires (lit≤ tt) (lit≤ tt))
+pub read_registers-requires : goal.read_registers-requires
+read_registers-requires c = left c.transfer.ensures.run (enough c.requires tt)
 
-pub returns-in_default-got : goal.returns-in_default-got
+pub returns-in_err-data-clause-run : goal.returns-in_err-data-clause-run
 unfolding arm
-returns-in_default-got c = rw (c.not_armed-in_default-got.ensures, ← c.command_of-command.ensures)
-    (does_more
-    (does_go _ _ c.run_transfer-limited.ensures c.in-Acked.is
-    (does_fail _ c.read_registers-read.ensures c.in_default-got.is)) (lit≤ tt) (lit≤ tt))
+returns-in_err-data-clause-run c = rw (← c.command_of.ensures) (within (
+    runs_got _ _ c.transfer.ensures.run c.in_ok-transfer.was (
+    runs_lost _ _ c.read_registers.ensures.run c.in_err-data.was (erred c.from_residual-in_err-data.ensures))) tt)
 
-pub write_register-enabled-requires : goal.write_register-enabled-requires
-write_register-enabled-requires c = room_after c.read_registers-read.ensures (room_after c.run_transfer-limited.ensures c.requires)
+pub write_register-requires : goal.write_register-requires
+write_register-requires c = left c.read_registers.ensures.run (left c.transfer.ensures.run c.requires)
 
-pub returns-in_default-got-2 : goal.returns-in_default-got-2
+pub returns-in_err-write_register-clause-run : goal.returns-in_err-write_register-clause-run
 unfolding arm
-returns-in_default-got-2 c = rw (c.not_armed-in_default-got-2.ensures, ← c.command_of-command.ensures)
-    (does_go _ _ c.run_transfer-limited.ensures c.in-Acked.is
-    (does_go _ _ c.read_registers-read.ensures c.in-Acked-got.is
-    (does_fail _ (rw c.enable-byte.ensures at c.write_register-enabled.ensures) c.in_default-got-2.is)))
+returns-in_err-write_register-clause-run c = rw (← c.command_of.ensures) (
+    runs_got _ _ c.transfer.ensures.run c.in_ok-transfer.was (
+    runs_got _ _ c.read_registers.ensures.run c.in_ok-data.was (
+    runs_lost _ _ (rw c.enable.ensures at c.write_register.ensures.run) c.in_err-write_register.was (erred c.from_residual-in_err-write_register.ensures))))
 
-pub returns : goal.returns
+pub returns-clause-run : goal.returns-clause-run
 unfolding arm
-returns c = rw (← c.command_of-command.ensures)
-    (does_go _ _ c.run_transfer-limited.ensures c.in-Acked.is
-    (does_go _ _ c.read_registers-read.ensures c.in-Acked-got.is
-    (does_go _ _ (rw c.enable-byte.ensures at c.write_register-enabled.ensures) c.in-Acked-got-2.is does_done)))
+returns-clause-run c = rw (← c.command_of.ensures) (
+    runs_got _ _ c.transfer.ensures.run c.in_ok-transfer.was (
+    runs_got _ _ c.read_registers.ensures.run c.in_ok-data.was (
+    runs_got _ _ (rw c.enable.ensures at c.write_register.ensures.run) c.in_ok-write_register.was (runs_done refl))))

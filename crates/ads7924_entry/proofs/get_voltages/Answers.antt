@@ -1,15 +1,14 @@
 -- `ads7924_entry::get_voltages` meets its contract: a shut gate changes nothing, and an open one leaves room for the call. Assumes nothing.
-use mathlib.Core.Path.{sym, ◌∙◌}
-use lib.Dec.{lit≤}
-use Rattle.bus.proofs.Runs.{room_less, does_mapped}
-use Rattle.gate.proofs.Laws.{open_room, enters_open, enters_shut}
+use mathlib.Core.Path.{refl}
+use Rattle.bus.proofs.Runs.{runs_mapped, enough}
+use Rattle.gate.proofs.Laws.{enters_shut, enters_open, open_bus}
 use Rattle.ads7924_entry.proofs.get_voltages.Goals as goal
 
-pub get_voltages_at-scanned-requires : goal.get_voltages_at-scanned-requires
-get_voltages_at-scanned-requires c = room_less (open_room c.args.slot c.args.used _ _ _ (sym c.gate_of-gate.ensures ∙ c.in-Open.is)) (lit≤ tt) (lit≤ tt)
+pub get_voltages_at-answer-requires : goal.get_voltages_at-answer-requires
+get_voltages_at-answer-requires c = enough (open_bus c.args.slot c.args.used c.in-Ok.ensures) tt
 
-pub returns-in-Shut : goal.returns-in-Shut
-returns-in-Shut c = enters_shut _ _ _ _ _ _ _ (sym c.gate_of-gate.ensures ∙ c.in-Shut.is)
+pub returns-in-Ok : goal.returns-in-Ok
+returns-in-Ok c = let f = c.get_voltages_at-answer.ensures in enters_open c.log-1.given c.in-Ok.ensures refl refl f.lent (runs_mapped _ f.run refl)
 
-pub returns-in-Open : goal.returns-in-Open
-returns-in-Open c = enters_open _ _ _ _ _ _ (sym c.gate_of-gate.ensures ∙ c.in-Open.is) (does_mapped _ c.get_voltages_at-scanned.ensures)
+pub returns-in-Err : goal.returns-in-Err
+returns-in-Err c = enters_shut c.in-Err.ensures

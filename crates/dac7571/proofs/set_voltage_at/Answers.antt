@@ -1,19 +1,18 @@
 -- `dac7571::set_voltage_at` meets its contract: refused for range, failed on the bus or programmed, each way out is the run that the definition has there. Assumes nothing.
-use mathlib.Core.Path.{ap}
-use lib.Dec.{lit≤}
-use Rattle.bus.proofs.Runs.{does_end, does_done, does_more, does_fail, does_go}
-use Rattle.dac7571.specs.declared.Output.TheVariants.{Volts}
+use Rattle.std.specs.Prelude.{Ok}
+use mathlib.Core.Path.{refl, ap}
+use Rattle.bus.proofs.Runs.{runs_lost, runs_got, runs_done, within, erred}
 use Rattle.dac7571.specs.Voltage.{set_voltage}
 use Rattle.dac7571.proofs.set_voltage_at.Goals as goal
 
-pub returns-in_default : goal.returns-in_default
+pub returns-in_default-clause-run : goal.returns-in_default-clause-run
 unfolding set_voltage
-returns-in_default c = rw (← c.dac7571_code-conversion.ensures, c.in_default.is) (does_more does_done (lit≤ tt) (lit≤ tt))
+returns-in_default-clause-run c = rw (← c.in_default.ensures) (within (runs_done refl) tt)
 
-pub returns-in_default-got : goal.returns-in_default-got
+pub returns-in_err-transfer-clause-run : goal.returns-in_err-transfer-clause-run
 unfolding set_voltage
-returns-in_default-got c = rw (← c.dac7571_code-conversion.ensures, c.in-Code.is) (does_fail _ c.run_transfer-taken.ensures c.in_default-got.is)
+returns-in_err-transfer-clause-run c = rw (← c.in-Some.ensures, ← c.write_of.ensures) (runs_lost _ _ c.transfer.ensures.run c.in_err-transfer.was (erred c.from_residual.ensures))
 
-pub returns : goal.returns
+pub returns-clause-run : goal.returns-clause-run
 unfolding set_voltage
-returns c = rw (← c.dac7571_code-conversion.ensures, c.in-Code.is) (does_go _ _ c.run_transfer-taken.ensures c.in-Acked.is (does_end (ap Volts c.volts_of-volts.ensures)))
+returns-clause-run c = rw (← c.in-Some.ensures, ← c.write_of.ensures) (runs_got _ _ c.transfer.ensures.run c.in_ok-transfer.was (runs_done (ap Ok c.volts_of.ensures)))

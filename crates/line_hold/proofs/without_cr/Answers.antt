@@ -1,12 +1,6 @@
--- `line_hold::without_cr` meets its contract: it cuts where the line ends. Assumes nothing.
-use mathlib.Core.Path.{sym, refl}
-use lib.Seq.{length-take-le}
-use Rattle.line_hold.specs.Hold.{without_cr}
+-- `line_hold::without_cr` meets its contract: the line has a CR at its end, or none. Assumes nothing.
+use Rattle.line_hold.proofs.Laws.{without_suffix}
 use Rattle.line_hold.proofs.without_cr.Goals as goal
 
-pub slice_bounds-result-end : goal.slice_bounds-result-end
-slice_bounds-result-end c = sym (length-take-le c.end_of-end.result c.args.s.now c.end_of-end.ensures.1)
-
 pub returns : goal.returns
-unfolding without_cr
-returns c = rw c.end_of-end.ensures.0 refl
+returns c = rw c.unwrap_or.ensures (without_suffix c.args.s c.strip_suffix.result c.strip_suffix.ensures.cases)

@@ -1,14 +1,13 @@
--- `mcp3221::get_voltage_at` meets its contract: the transfer failed, or it did not, and each way out is the run that the definition has there. Assumes nothing.
-use mathlib.Core.Path.{ap}
-use Rattle.bus.proofs.Runs.{does_end, does_fail, does_go}
-use Rattle.mcp3221.specs.declared.Reading.TheVariants.{Volts}
+-- `mcp3221::get_voltage_at` meets its contract: the read failed, or its two bytes are the code. Assumes nothing.
+use native.Mathlib.Nat.{mul_comm}
+use Rattle.bus.proofs.Runs.{runs_lost, runs_got, runs_done, erred}
 use Rattle.mcp3221.specs.Voltage.{get_voltage}
 use Rattle.mcp3221.proofs.get_voltage_at.Goals as goal
 
-pub returns-in_default : goal.returns-in_default
+pub returns-in_err-data-clause-run : goal.returns-in_err-data-clause-run
 unfolding get_voltage
-returns-in_default c = does_fail _ c.run_transfer-taken.ensures c.in_default.is
+returns-in_err-data-clause-run c = runs_lost _ _ c.transfer.ensures.run c.in_err-data.was (erred c.from_residual.ensures)
 
-pub returns : goal.returns
+pub returns-clause-run : goal.returns-clause-run
 unfolding get_voltage
-returns c = does_go _ _ c.run_transfer-taken.ensures c.in-Acked.is (does_end (ap Volts c.volts_of-volts.ensures))
+returns-clause-run c = runs_got _ _ c.transfer.ensures.run c.in_ok-data.was (runs_done (rw (c.volts_of.ensures, c.from_be_bytes-code.ensures, mul_comm c.in_ok-data.data.b0 256)))

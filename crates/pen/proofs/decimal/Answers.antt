@@ -2,7 +2,7 @@
 use Rattle.text.proofs.Decimals.{decimal_is}
 use Rattle.pen.proofs.decimal.Goals as goal
 
-pub returns : goal.returns
-returns c = let n = c.args.n in
+pub returns-clause-text : goal.returns-clause-text
+returns-clause-text c = let n = c.args.n in
     let told = c.decimal-k in
-    rw (told.ensures.digits, decimal_is n told.result told.ensures.len) at c.bytes.ensures
+    rw (told.ensures.digits, decimal_is n told.result told.ensures.len) at c.bytes.ensures.text

@@ -1,12 +1,9 @@
--- `pen::floats` meets its contract. The loop's invariant: the first i floats are written. The measure is what is left of them. Assumes nothing.
-use Prim.Native.Nat.{◌-◌, ◌≤◌}
+-- `pen::floats` meets its contract. The loop's invariant: the first i floats are written. Assumes nothing.
 use mathlib.Core.Path.{◌≡◌}
-use lib.ListN.{length, take}
-use Rattle.pen.specs.Ink.{Inked, each, float_text}
+use lib.ListN.{take}
+use Rattle.pen.specs.Ink.{each, float_text}
+use Rattle.pen.specs.Pens.{Inks}
 use Rattle.pen.proofs.floats.Given as goal
 
-abbrev pub invariant-loop-i : goal.invariant-loop-i
-invariant-loop-i l = (l.i ≤ length l.xs) × (length l.out ≡ length l.initial.out) × Inked l.initial.out l.at l.out l.past (each float_text (take l.i l.xs))
-
-abbrev pub decreases-loop-i : goal.decreases-loop-i
-decreases-loop-i l = length l.xs - l.i
+abbrev pub invariant-loop-x : goal.invariant-loop-x
+invariant-loop-x l = (l.writer.out.ghost_name ≡ l.initial.writer.out.ghost_name) × Inks l.initial.writer l.writer (each float_text (take l.x-index l.xs))

@@ -1,18 +1,12 @@
--- `pen::hex` meets its contract. The loop's invariant: the first i bytes are written as digits. The measure is what is left of the bytes. Assumes nothing.
-use lib.Seq.{take_all}
+-- `pen::hex` meets its contract: no byte, and a byte more. Assumes nothing.
 use borrow.Author.Rules.{rules}
 use Rattle.pen.specs.Ink.{pair_text}
 use Rattle.pen.proofs.Laws.{each_none, each_more}
 use Rattle.pen.proofs.hex.Goals as goal
 
-pub loop-i-init : goal.loop-i-init
-loop-i-init c = (search rules, search rules, each_none pair_text c.args.out.now c.args.at)
+pub loop-b-init : goal.loop-b-init
+loop-b-init c = (search rules, each_none pair_text c.args.writer.now)
 
-pub loop-i-preserved : goal.loop-i-preserved
-loop-i-preserved c = let turn = c.loop-i in
-    (search rules, search rules, each_more pair_text 0 c.args.s.now turn.i (search rules) turn.invariant.2 c.pair-past.ensures)
-
-pub returns : goal.returns
-returns c = let s = c.args.s.now in
-    let turn = c.loop-i in
-    rw (take_all turn.i s (search rules)) at turn.invariant.2
+pub loop-b-preserved : goal.loop-b-preserved
+loop-b-preserved c = let turn = c.loop-b in
+    (search rules, each_more pair_text 0 c.args.s.now turn.b-index (search rules) turn.invariant.1 c.pair.ensures.text)

@@ -5,6 +5,7 @@ use Rattle.replay_feed.specs.Feed.{reading}
 use Rattle.replay_feed.proofs.Laws.{line_ended}
 use Rattle.replay_feed.proofs.end_line.Goals as goal
 
-pub returns : goal.returns
-returns c = let line = line_ended (reading c.args.replay c.args.log.now c.args.hold.now) (c.without_cr-s.ensures ∙ ap without_cr c.front-held.ensures) c.pass.ensures.0 c.pass.ensures.1 in
-    (line.0, rw (sym line.1) c.pass.ensures.2, c.pass.ensures.3)
+pub returns-clause-line : goal.returns-clause-line
+returns-clause-line c = let passed = c.pass.ensures.line in
+    let line = line_ended (reading c.args.replay c.args.log.now c.args.hold.now) (c.without_cr-s.ensures ∙ ap without_cr c.front-held.ensures) passed.0 passed.1 in
+    (line.0, rw (sym line.1) passed.2, passed.3)

@@ -9,5 +9,6 @@ returns-then-replay-eq0 c = let none = nothing_held (reading c.args.replay c.arg
     (none.0, rw (sym none.1) (wrote_nothing c.args.out.now 0))
 
 pub returns : goal.returns
-returns c = let line = input_ended (reading c.args.replay c.args.log.now c.args.hold.now) c.if-replay-eq0.false c.front-s.ensures c.pass.ensures.0 c.pass.ensures.1 in
-    (line.0, rw (sym line.1) c.pass.ensures.2)
+returns c = let passed = c.pass-replay.ensures.line in
+    let line = input_ended (reading c.args.replay c.args.log.now c.args.hold.now) c.if-replay-eq0.false c.front-s.ensures passed.0 passed.1 in
+    (line.0, rw (sym line.1) passed.2)

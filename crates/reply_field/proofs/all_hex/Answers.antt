@@ -1,21 +1,11 @@
--- `reply_field::all_hex` meets its contract. The loop's invariant: what is left is all digits where the whole is. The measure is what is left of the length. Assumes nothing.
-use mathlib.Core.Path.{refl, sym, ◌∙◌}
-use borrow.Author.Rules.{rules}
-use Rattle.reply_field.proofs.Laws.{hex_goes, hex_stops, hex_end}
+-- `reply_field::all_hex` meets its contract: the closure tests a byte as the definition does. Assumes nothing.
+use Rattle.std.proofs.Common.{rules, ◌∙◌}
+use borrow.Author.Tests.{tests}
+use Rattle.std.proofs.lemmas.Iterator.{YieldsList-from_slice}
+use Rattle.std.proofs.lemmas.Iterator.Search.{all_from_yields_List}
+use Rattle.field.specs.Field.{is_hex}
+use Rattle.reply_field.proofs.Laws.{hex_is, all_is}
 use Rattle.reply_field.proofs.all_hex.Goals as goal
 
-pub loop-i-init : goal.loop-i-init
-loop-i-init c = (search rules, refl)
-
-pub loop-i-preserved : goal.loop-i-preserved
-loop-i-preserved c = let s = c.args.s.now in
-    let l = c.loop-i in
-    (search rules, hex_goes s l.i c.loop-i-test.true (sym c.is_hex-hex.ensures ∙ c.if-hex.true) ∙ l.invariant.1)
-
-pub returns-else-hex : goal.returns-else-hex
-returns-else-hex c = let s = c.args.s.now in
-    let l = c.loop-i in
-    sym (hex_stops s l.i c.loop-i-test.true (sym c.is_hex-hex.ensures ∙ c.if-hex.false)) ∙ l.invariant.1
-
 pub returns : goal.returns
-returns c = sym (hex_end c.args.s.now c.loop-i.i c.loop-i-test.false) ∙ c.loop-i.invariant.1
+returns c = all_from_yields_List is_hex _ _ _ c.all.ensures.ran (YieldsList-from_slice c.args.s.now cc) (λ x b q k. search (rules, tests, hex_is)) ∙ all_is c.args.s.now

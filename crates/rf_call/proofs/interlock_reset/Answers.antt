@@ -1,22 +1,18 @@
 -- `rf_call::interlock_reset` meets its contract: the event, and then the answer or the halt. Assumes nothing.
-use mathlib.Core.Path.{◌∙◌}
-use lib.Dec.{lit≤}
-use Rattle.bus.proofs.Runs.{does_then, does_more, room_after, room_less}
-use Rattle.rf_machine.proofs.Laws.{does_here}
-use Rattle.rf_call.specs.Calls.{after_event, answering, interlock_reset}
-use Rattle.rf_call.proofs.Laws.{room_halt}
+use mathlib.Core.Path.{ap}
+use Rattle.bus.proofs.Runs.{runs_done, within, rows, rows_left}
+use Rattle.rf_call.specs.declared.Outcome.TheVariants.{Live}
+use Rattle.rf_call.specs.Calls.{interlock_reset, answering}
+use Rattle.rf_call.proofs.Laws.{runs_event, runs_halt}
 use Rattle.rf_call.proofs.interlock_reset.Goals as goal
 
-pub process_event-processed-requires : goal.process_event-processed-requires
-process_event-processed-requires c = room_less c.requires (lit≤ tt) (lit≤ tt)
-
 pub halt-requires : goal.halt-requires
-halt-requires c = room_halt (room_after c.process_event-processed.ensures (room_less c.requires (lit≤ tt) (lit≤ tt)))
+halt-requires c = rows_left c.process_event.ensures.run (rows c.requires tt)
 
-pub returns-in-Went : goal.returns-in-Went
-unfolding interlock_reset answering after_event
-returns-in-Went c = does_more (does_then (after_event _) c.process_event-processed.ensures c.in-Went.is (does_here (c.live.ensures.0 ∙ rw c.reset_answer-answer.ensures) c.live.ensures.1)) (lit≤ tt) (lit≤ tt)
+pub returns-in-Ok-clause-run : goal.returns-in-Ok-clause-run
+unfolding interlock_reset answering
+returns-in-Ok-clause-run c = within (runs_event _ c.process_event.ensures.run c.in-Ok.is (runs_done (ap (λ a. Live c.in-Ok.channel a) c.reset_answer.ensures))) tt
 
-pub returns-in-Stopped : goal.returns-in-Stopped
-unfolding interlock_reset answering after_event
-returns-in-Stopped c = does_more (does_then (after_event _) c.process_event-processed.ensures c.in-Stopped.is (c.halt.ensures _)) (lit≤ tt) (lit≤ tt)
+pub returns-in-Err-clause-run : goal.returns-in-Err-clause-run
+unfolding interlock_reset answering
+returns-in-Err-clause-run c = within (runs_halt _ c.process_event.ensures.run c.in-Err.is c.halt.ensures.run) tt

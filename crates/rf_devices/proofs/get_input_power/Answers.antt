@@ -1,12 +1,14 @@
 -- `rf_devices::get_input_power` meets its contract: it is the measurement, with its answer mapped. Assumes nothing.
-use Rattle.bus.proofs.Runs.{does_mapped}
+use mathlib.Core.Path.{ap, ◌∙◌, sym}
+use Rattle.std.specs.Prelude.{Ok}
+use Rattle.bus.proofs.Runs.{runs_mapped, erred}
 use Rattle.rf_devices.specs.Devices.{dbm, get_input_power}
 use Rattle.rf_devices.proofs.get_input_power.Goals as goal
 
-pub returns-in_default : goal.returns-in_default
+pub returns-in_err-voltage-clause-run : goal.returns-in_err-voltage-clause-run
 unfolding get_input_power
-returns-in_default c = rw c.in_default.is at (does_mapped (dbm c.args.settings) c.get_voltage_at-measured.ensures)
+returns-in_err-voltage-clause-run c = runs_mapped _ c.get_voltage_at.ensures.run (erred c.from_residual.ensures ∙ sym (ap (dbm c.args.settings) c.in_err-voltage.was))
 
-pub returns : goal.returns
+pub returns-clause-run : goal.returns-clause-run
 unfolding get_input_power
-returns c = rw (c.in-Volts.is, ← c.map-dbm.ensures) at (does_mapped (dbm c.args.settings) c.get_voltage_at-measured.ensures)
+returns-clause-run c = runs_mapped _ c.get_voltage_at.ensures.run (ap Ok c.map.ensures ∙ sym (ap (dbm c.args.settings) c.in_ok-voltage.was))

@@ -1,37 +1,21 @@
 -- `rf_machine::enable_output` meets its contract: the level stops it, the bias stops it, or the pin follows. Assumes nothing.
-use mathlib.Core.Path.{◌≡◌, refl, ap, ◌∙◌}
-use lib.Dec.{lit≤}
-use Rattle.std.specs.Prelude.{Float}
-use Rattle.bus.proofs.Runs.{does_mapped, does_done, does_more, room_after, room_less, room_note}
-use Rattle.dac7571.specs.declared.Output.TheVariants.{Volts, Range, Bus as Unheard}
-use Rattle.dac7571.specs.declared.Output.{Output}
-use Rattle.rf_machine.specs.Hardware.{enabled, enable_output}
-use Rattle.rf_machine.specs.declared.Cause.TheVariants.{Bus, Bias}
-use Rattle.rf_machine.specs.declared.Cause.{Cause}
-use Rattle.rf_machine.specs.declared.Effect.TheVariants.{Stop}
-use Rattle.rf_machine.proofs.Laws.{does_turned, does_stop, does_did}
+use mathlib.Core.Path.{refl}
+use Rattle.bus.proofs.Runs.{runs_mapped, runs_done, within, erred, rows_left, rows}
+use Rattle.rf_machine.specs.Hardware.{enable_output}
+use Rattle.rf_machine.proofs.Laws.{runs_stop, runs_did, runs_pin}
 use Rattle.rf_machine.proofs.enable_output.Goals as goal
 
--- what is not volts ends it
-not_taken : (o : Output) → ((v : Float) → o ≡ Volts v → ⊥) → (cause : Cause) × (enabled o ≡ Stop cause)
-not_taken (Volts v) k = absurd (k v refl)
-not_taken Range k = (Bias, refl)
-not_taken Unheard k = (Bus, refl)
-
-pub apply_bias-biased-requires : goal.apply_bias-biased-requires
-apply_bias-biased-requires c = room_less c.requires (lit≤ tt) (lit≤ tt)
-
-pub returns-in_default : goal.returns-in_default
+pub returns-in_err-enabled-clause-run : goal.returns-in_err-enabled-clause-run
 unfolding enable_output
-returns-in_default c = rw (← c.map-lowest.ensures, c.if-settings-lowest.true) (does_more (does_stop _ (does_turned enabled c.apply_bias-biased.ensures c.effect_of-effect.ensures) (c.effect_of-effect.ensures ∙ (not_taken c.apply_bias-biased.result.output c.in_default.not-Volts).1)) (lit≤ tt) (lit≤ tt))
+returns-in_err-enabled-clause-run c = rw (← c.map-lowest.ensures, c.if-settings-lowest.true) (within (runs_stop _ (runs_mapped _ c.apply_bias-biased.ensures.run c.enabled.ensures) c.in_err-enabled.was (erred c.from_residual.ensures)) tt)
 
-pub set-requires : goal.set-requires
-set-requires c = room_note (room_after c.apply_bias-biased.ensures (room_less c.requires (lit≤ tt) (lit≤ tt)))
+pub note-requires : goal.note-requires
+note-requires c = rows_left c.apply_bias-biased.ensures.run (rows c.requires tt)
 
-pub returns-in-Volts : goal.returns-in-Volts
+pub returns-in_ok-enabled-clause-run : goal.returns-in_ok-enabled-clause-run
 unfolding enable_output
-returns-in-Volts c = rw (← c.map-lowest.ensures, c.if-settings-lowest.true) (does_did _ (does_mapped enabled c.apply_bias-biased.ensures) (ap enabled c.in-Volts.is) (c.set.ensures _))
+returns-in_ok-enabled-clause-run c = rw (← c.map-lowest.ensures, c.if-settings-lowest.true) (runs_did _ (runs_mapped _ c.apply_bias-biased.ensures.run c.enabled.ensures) c.in_ok-enabled.was (runs_pin _ c.note.ensures.run))
 
-pub returns-else-settings-lowest : goal.returns-else-settings-lowest
+pub returns-else-settings-lowest-clause-run : goal.returns-else-settings-lowest-clause-run
 unfolding enable_output
-returns-else-settings-lowest c = rw (← c.map-lowest.ensures, c.if-settings-lowest.false) (does_more does_done (lit≤ tt) (lit≤ tt))
+returns-else-settings-lowest-clause-run c = rw (← c.map-lowest.ensures, c.if-settings-lowest.false) (within (runs_done refl) tt)

@@ -1,27 +1,22 @@
--- `rf_machine::pinch_off` meets its contract: it is the chip's run, and all that is not volts stops for the bus. Assumes nothing.
-use mathlib.Core.Path.{◌≡◌, refl, sym, ap}
-use Rattle.std.specs.Prelude.{Float}
-use Rattle.dac7571.specs.declared.Output.{Output}
-use Rattle.dac7571.specs.declared.Output.TheVariants.{Volts, Range, Bus as Unheard}
-use Rattle.rf_machine.specs.declared.Cause.TheVariants.{Bus}
-use Rattle.rf_machine.specs.declared.Effect.TheVariants.{Stop}
+-- `rf_machine::pinch_off` meets its contract: the chip's answer, as the definition turns it. Assumes nothing.
+use mathlib.Core.Path.{◌≡◌, refl, ap, sym, ◌∙◌}
+use Rattle.std.specs.Prelude.{Err}
+use Rattle.bus.specs.declared.Error.{Error}
+use Rattle.bus.specs.declared.Error.TheVariants.{Range, Bus}
+use Rattle.bus.proofs.Runs.{runs_mapped}
+use Rattle.rf_machine.specs.declared.Cause.TheVariants as Cause
 use Rattle.rf_machine.specs.Hardware.{pinched, pinch_off}
-use Rattle.rf_machine.proofs.Laws.{does_turned}
 use Rattle.rf_machine.proofs.pinch_off.Goals as goal
 
--- what is not volts ends it
-not_taken : (o : Output) → ((v : Float) → o ≡ Volts v → ⊥) → Stop Bus ≡ pinched o
-not_taken (Volts v) k = absurd (k v refl)
-not_taken Range k = refl
-not_taken Unheard k = refl
+-- any error is cause 1
+lost : (e : Error) → Err Cause.Bus ≡ pinched (Err e)
+lost Range = refl
+lost Bus = refl
 
-pub set_voltage_at-programmed-requires : goal.set_voltage_at-programmed-requires
-set_voltage_at-programmed-requires c = c.requires
-
-pub returns-in_default : goal.returns-in_default
+pub returns-in-Ok-clause-run : goal.returns-in-Ok-clause-run
 unfolding pinch_off
-returns-in_default c = does_turned pinched c.set_voltage_at-programmed.ensures (not_taken c.set_voltage_at-programmed.result.output c.in_default.not-Volts)
+returns-in-Ok-clause-run c = runs_mapped pinched c.set_voltage_at.ensures.run (sym (ap pinched c.in-Ok.is))
 
-pub returns : goal.returns
+pub returns-in-Err-clause-run : goal.returns-in-Err-clause-run
 unfolding pinch_off
-returns c = does_turned pinched c.set_voltage_at-programmed.ensures (sym (ap pinched c.in-Volts.is))
+returns-in-Err-clause-run c = runs_mapped pinched c.set_voltage_at.ensures.run (lost _ ∙ sym (ap pinched c.in-Err.is))

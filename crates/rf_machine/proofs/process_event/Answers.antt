@@ -1,28 +1,23 @@
 -- `rf_machine::process_event` meets its contract: the plan has nothing to do, or its action is done or stops, and each way out is the run that the definition has there. Assumes nothing.
-use mathlib.Core.Path.{sym, ap, ◌∙◌}
-use lib.Dec.{lit≤}
-use Rattle.bus.proofs.Runs.{does_more}
-use Rattle.rf_machine.specs.declared.Step.TheVariants.{Went}
+use mathlib.Core.Path.{refl, sym, ap, ◌∙◌}
+use Rattle.std.specs.Prelude.{Ok}
+use Rattle.bus.proofs.Runs.{runs_mapped, runs_done, within, erred}
 use Rattle.rf_machine.specs.declared.Told.TheVariants.{Moved}
 use Rattle.rf_machine.specs.Event.{arrived, carry, process_event}
-use Rattle.rf_machine.proofs.Laws.{does_here, does_turned}
 use Rattle.rf_machine.proofs.process_event.Goals as goal
 
-pub act-acted-requires : goal.act-acted-requires
-act-acted-requires c = c.requires
-
-pub returns-in-NoTransition : goal.returns-in-NoTransition
+pub returns-in-NoTransition-clause-run : goal.returns-in-NoTransition-clause-run
 unfolding process_event carry
-returns-in-NoTransition c = rw (← c.plan_of-plan.ensures, c.in-NoTransition.is) (does_more (does_here c.stay.ensures.0 c.stay.ensures.1) (lit≤ tt) (lit≤ tt))
+returns-in-NoTransition-clause-run c = rw (← c.in-NoTransition.ensures) (within (runs_done refl) tt)
 
-pub returns-in-GuardFalse : goal.returns-in-GuardFalse
+pub returns-in-GuardFalse-clause-run : goal.returns-in-GuardFalse-clause-run
 unfolding process_event carry
-returns-in-GuardFalse c = rw (← c.plan_of-plan.ensures, c.in-GuardFalse.is) (does_more (does_here c.stay-in-GuardFalse.ensures.0 c.stay-in-GuardFalse.ensures.1) (lit≤ tt) (lit≤ tt))
+returns-in-GuardFalse-clause-run c = rw (← c.in-GuardFalse.ensures) (within (runs_done refl) tt)
 
-pub returns-in-Did : goal.returns-in-Did
+pub returns-in_err-act-in-Go-clause-run : goal.returns-in_err-act-in-Go-clause-run
 unfolding process_event carry
-returns-in-Did c = rw (← c.plan_of-plan.ensures, c.in-Go.is) (does_turned (arrived c.args.channel c.in-Go.action c.in-Go.state) c.act-acted.ensures (ap (λ x. Went x Moved) c.arrive-channel.ensures ∙ sym (ap (arrived c.args.channel c.in-Go.action c.in-Go.state) c.in-Did.is)))
+returns-in_err-act-in-Go-clause-run c = let w = arrived c.args.channel c.in-Go.action c.in-Go.state in rw (← c.in-Go.ensures) (runs_mapped w c.act.ensures.run (erred c.from_residual.ensures ∙ sym (ap w c.in_err-act-in-Go.was)))
 
-pub returns-in-Stop : goal.returns-in-Stop
+pub returns-in_ok-act-in-Go-clause-run : goal.returns-in_ok-act-in-Go-clause-run
 unfolding process_event carry
-returns-in-Stop c = rw (← c.plan_of-plan.ensures, c.in-Go.is) (does_turned (arrived c.args.channel c.in-Go.action c.in-Go.state) c.act-acted.ensures (sym (ap (arrived c.args.channel c.in-Go.action c.in-Go.state) c.in-Stop.is)))
+returns-in_ok-act-in-Go-clause-run c = let w = arrived c.args.channel c.in-Go.action c.in-Go.state in rw (← c.in-Go.ensures) (runs_mapped w c.act.ensures.run (ap (λ x. Ok (x, Moved)) c.arrive.ensures ∙ sym (ap w c.in_ok-act-in-Go.was)))

@@ -1,24 +1,20 @@
 -- `rf_machine::start_disable` meets its contract: after the pin the bias chip stops it, or the other pin follows. Assumes nothing.
 use mathlib.Core.Path.{refl}
-use lib.Dec.{lit≤}
-use Rattle.bus.proofs.Runs.{does_more, room_after, room_less, room_note}
+use Rattle.bus.proofs.Runs.{within, left, enough, erred, rows_left, rows}
 use Rattle.rf_machine.specs.Hardware.{disable_rf_switch, start_disable}
-use Rattle.rf_machine.proofs.Laws.{does_stop, does_did, does_pin}
+use Rattle.rf_machine.proofs.Laws.{runs_stop, runs_did, runs_pin}
 use Rattle.rf_machine.proofs.start_disable.Goals as goal
 
-pub add_note-next-requires : goal.add_note-next-requires
-add_note-next-requires c = room_note (room_less c.requires (lit≤ tt) (lit≤ tt))
+pub pinch_off-requires : goal.pinch_off-requires
+pinch_off-requires c = left c.note.ensures.run (enough c.requires tt)
 
-pub pinch_off-off-requires : goal.pinch_off-off-requires
-pinch_off-off-requires c = room_after (c.add_note-next.ensures _) (room_less c.requires (lit≤ tt) (lit≤ tt))
-
-pub returns-in_default : goal.returns-in_default
+pub returns-in_err-pinch_off-clause-run : goal.returns-in_err-pinch_off-clause-run
 unfolding start_disable disable_rf_switch
-returns-in_default c = does_more (does_did _ (does_pin _ (c.add_note-next.ensures _)) refl (does_stop _ c.pinch_off-off.ensures c.in_default.is)) (lit≤ tt) (lit≤ tt)
+returns-in_err-pinch_off-clause-run c = within (runs_did _ (runs_pin _ c.note.ensures.run) refl (runs_stop _ c.pinch_off.ensures.run c.in_err-pinch_off.was (erred c.from_residual.ensures))) tt
 
-pub set-requires : goal.set-requires
-set-requires c = room_note (room_after c.pinch_off-off.ensures (room_after (c.add_note-next.ensures _) (room_less c.requires (lit≤ tt) (lit≤ tt))))
+pub note-requires-2 : goal.note-requires-2
+note-requires-2 c = rows_left c.pinch_off.ensures.run (rows_left c.note.ensures.run (rows c.requires tt))
 
-pub returns : goal.returns
+pub returns-clause-run : goal.returns-clause-run
 unfolding start_disable disable_rf_switch
-returns c = does_did _ (does_pin _ (c.add_note-next.ensures _)) refl (does_did _ c.pinch_off-off.ensures c.in-Did.is (c.set.ensures _))
+returns-clause-run c = runs_did _ (runs_pin _ c.note.ensures.run) refl (runs_did _ c.pinch_off.ensures.run c.in_ok-pinch_off.was (runs_pin _ c.note-2.ensures.run))

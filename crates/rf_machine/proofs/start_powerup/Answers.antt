@@ -1,20 +1,16 @@
 -- `rf_machine::start_powerup` meets its contract: the bias chip stops it, or the pin follows. Assumes nothing.
-use lib.Dec.{lit≤}
-use Rattle.bus.proofs.Runs.{does_more, room_after, room_less, room_note}
+use Rattle.bus.proofs.Runs.{within, erred, rows_left, rows}
 use Rattle.rf_machine.specs.Hardware.{start_powerup}
-use Rattle.rf_machine.proofs.Laws.{does_stop, does_did}
+use Rattle.rf_machine.proofs.Laws.{runs_stop, runs_did, runs_pin}
 use Rattle.rf_machine.proofs.start_powerup.Goals as goal
 
-pub pinch_off-off-requires : goal.pinch_off-off-requires
-pinch_off-off-requires c = room_less c.requires (lit≤ tt) (lit≤ tt)
-
-pub returns-in_default : goal.returns-in_default
+pub returns-in_err-pinch_off-clause-run : goal.returns-in_err-pinch_off-clause-run
 unfolding start_powerup
-returns-in_default c = does_more (does_stop _ c.pinch_off-off.ensures c.in_default.is) (lit≤ tt) (lit≤ tt)
+returns-in_err-pinch_off-clause-run c = within (runs_stop _ c.pinch_off.ensures.run c.in_err-pinch_off.was (erred c.from_residual.ensures)) tt
 
-pub set-requires : goal.set-requires
-set-requires c = room_note (room_after c.pinch_off-off.ensures (room_less c.requires (lit≤ tt) (lit≤ tt)))
+pub note-requires : goal.note-requires
+note-requires c = rows_left c.pinch_off.ensures.run (rows c.requires tt)
 
-pub returns : goal.returns
+pub returns-clause-run : goal.returns-clause-run
 unfolding start_powerup
-returns c = does_did _ c.pinch_off-off.ensures c.in-Did.is (c.set.ensures _)
+returns-clause-run c = runs_did _ c.pinch_off.ensures.run c.in_ok-pinch_off.was (runs_pin _ c.note.ensures.run)

@@ -1,14 +1,13 @@
 -- `rf_settings::follow_up` meets its contract: no event answers at once, and an event is sent. Assumes nothing.
-use lib.Dec.{lit≤}
-use Rattle.bus.proofs.Runs.{does_more}
-use Rattle.rf_machine.proofs.Laws.{does_here}
+use mathlib.Core.Path.{refl}
+use Rattle.bus.proofs.Runs.{runs_done, within}
 use Rattle.rf_settings.specs.Settings.{on_follow, following}
 use Rattle.rf_settings.proofs.follow_up.Goals as goal
 
-pub returns-in_default : goal.returns-in_default
+pub returns-in-None-clause-run : goal.returns-in-None-clause-run
 unfolding following on_follow
-returns-in_default c = rw (← c.event_of-follow.ensures, c.in_default.is) (does_more (does_here c.live.ensures.0 c.live.ensures.1) (lit≤ tt) (lit≤ tt))
+returns-in-None-clause-run c = rw (← c.event_of.ensures, c.in-None.is) (within (runs_done refl) tt)
 
-pub returns : goal.returns
+pub returns-in-Some-clause-run : goal.returns-in-Some-clause-run
 unfolding following on_follow
-returns c = rw (← c.event_of-follow.ensures, c.in-Raise.is) c.send.ensures
+returns-in-Some-clause-run c = rw (← c.event_of.ensures, c.in-Some.is) c.send.ensures.run

@@ -1,27 +1,23 @@
 -- `rf_settings::write_changes` meets its contract: the first write that goes wrong ends it, and the bias is the last. Assumes nothing.
-use lib.Dec.{lit≤}
-use Rattle.bus.proofs.Runs.{does_more, room_after, room_less}
+use Rattle.bus.proofs.Runs.{within, left, enough, erred}
 use Rattle.rf_settings.specs.Settings.{write_changes}
-use Rattle.rf_settings.proofs.Laws.{does_failed, does_fine}
+use Rattle.rf_settings.proofs.Laws.{runs_wrong, runs_fine}
 use Rattle.rf_settings.proofs.write_changes.Goals as goal
 
-pub write_output-output-requires : goal.write_output-output-requires
-write_output-output-requires c = room_less c.requires (lit≤ tt) (lit≤ tt)
-
-pub returns-in_default : goal.returns-in_default
+pub returns-in_err-write_output-clause-run : goal.returns-in_err-write_output-clause-run
 unfolding write_changes
-returns-in_default c = does_more (does_failed _ c.write_output-output.ensures c.in_default.is) (lit≤ tt) (lit≤ tt)
+returns-in_err-write_output-clause-run c = within (runs_wrong _ c.write_output.ensures.run c.in_err-write_output.was (erred c.from_residual.ensures)) tt
 
-pub write_reflected-reflected-requires : goal.write_reflected-reflected-requires
-write_reflected-reflected-requires c = room_after c.write_output-output.ensures (room_less c.requires (lit≤ tt) (lit≤ tt))
+pub write_reflected-requires : goal.write_reflected-requires
+write_reflected-requires c = left c.write_output.ensures.run (enough c.requires tt)
 
-pub returns-in_default-written : goal.returns-in_default-written
+pub returns-in_err-write_reflected-clause-run : goal.returns-in_err-write_reflected-clause-run
 unfolding write_changes
-returns-in_default-written c = does_more (does_fine _ c.write_output-output.ensures c.in-Fine.is (does_failed _ c.write_reflected-reflected.ensures c.in_default-written.is)) (lit≤ tt) (lit≤ tt)
+returns-in_err-write_reflected-clause-run c = within (runs_fine _ c.write_output.ensures.run c.in_ok-write_output.was (runs_wrong _ c.write_reflected.ensures.run c.in_err-write_reflected.was (erred c.from_residual-in_err-write_reflected.ensures))) tt
 
 pub write_bias-requires : goal.write_bias-requires
-write_bias-requires c = room_after c.write_reflected-reflected.ensures (room_after c.write_output-output.ensures c.requires)
+write_bias-requires c = left c.write_reflected.ensures.run (left c.write_output.ensures.run c.requires)
 
-pub returns : goal.returns
+pub returns-clause-run : goal.returns-clause-run
 unfolding write_changes
-returns c = does_fine _ c.write_output-output.ensures c.in-Fine.is (does_fine _ c.write_reflected-reflected.ensures c.in-Fine-written.is c.write_bias.ensures)
+returns-clause-run c = runs_fine _ c.write_output.ensures.run c.in_ok-write_output.was (runs_fine _ c.write_reflected.ensures.run c.in_ok-write_reflected.was c.write_bias.ensures.run)

@@ -1,19 +1,13 @@
 -- `rf_settings::write_reflected` meets its contract: a level that has changed is the chip's run, and one that has not is no row. Assumes nothing.
-use mathlib.Core.Path.{sym, ap, ◌∙◌}
-use lib.Dec.{lit≤}
-use Rattle.bus.proofs.Runs.{does_more}
-use Rattle.rf_machine.proofs.Laws.{does_here, does_turned, does_told}
-use Rattle.rf_settings.specs.Settings.{level_applied, write_reflected}
+use mathlib.Core.Path.{refl}
+use Rattle.bus.proofs.Runs.{runs_mapped, runs_done, within}
+use Rattle.rf_settings.specs.Settings.{write_reflected}
 use Rattle.rf_settings.proofs.write_reflected.Goals as goal
 
-pub returns-in_default : goal.returns-in_default
+pub returns-then-not-changed-clause-run : goal.returns-then-not-changed-clause-run
 unfolding write_reflected
-returns-in_default c = rw c.if-changed.true (does_turned level_applied c.set_reflected_interlock_threshold-programmed.ensures c.level_written-written.ensures)
+returns-then-not-changed-clause-run c = rw c.if-not-changed.true (within (runs_done refl) tt)
 
-pub returns-in-Volts : goal.returns-in-Volts
+pub returns-clause-run : goal.returns-clause-run
 unfolding write_reflected
-returns-in-Volts c = rw c.if-changed.true (does_told level_applied c.set_reflected_interlock_threshold-programmed.ensures (c.fine.ensures.0 ∙ sym (ap level_applied c.in-Volts.is)) c.fine.ensures.1)
-
-pub returns-else-changed : goal.returns-else-changed
-unfolding write_reflected
-returns-else-changed c = rw c.if-changed.false (does_more (does_here c.fine-else-changed.ensures.0 c.fine-else-changed.ensures.1) (lit≤ tt) (lit≤ tt))
+returns-clause-run c = rw c.if-not-changed.false (runs_mapped _ c.set_reflected_interlock_threshold-output.ensures.run c.level_written.ensures)

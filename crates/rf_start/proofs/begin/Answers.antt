@@ -1,20 +1,16 @@
 -- `rf_start::begin` meets its contract: two notes and the bias chip, one after the other. Assumes nothing.
 use mathlib.Core.Path.{refl}
-use lib.Dec.{lit≤}
-use Rattle.bus.proofs.Runs.{room_after, room_less, room_note}
-use Rattle.rf_machine.proofs.Laws.{does_did, does_pin}
+use Rattle.bus.proofs.Runs.{left, rows, rows_left}
+use Rattle.rf_machine.proofs.Laws.{runs_did, runs_pin}
 use Rattle.rf_start.specs.Start.{beginning}
 use Rattle.rf_start.proofs.begin.Goals as goal
 
-pub add_note-next-requires : goal.add_note-next-requires
-add_note-next-requires c = room_note (room_less c.requires (lit≤ tt) (lit≤ tt))
-
-pub add_note-next-requires-2 : goal.add_note-next-requires-2
-add_note-next-requires-2 c = room_note (room_after (c.add_note-next.ensures _) (room_less c.requires (lit≤ tt) (lit≤ tt)))
+pub note-requires-2 : goal.note-requires-2
+note-requires-2 c = rows_left c.note.ensures.run (rows c.requires tt)
 
 pub pinch_off-requires : goal.pinch_off-requires
-pinch_off-requires c = room_after (c.add_note-next-2.ensures _) (room_after (c.add_note-next.ensures _) c.requires)
+pinch_off-requires c = left c.note-2.ensures.run (left c.note.ensures.run c.requires)
 
-pub returns : goal.returns
+pub returns-clause-run : goal.returns-clause-run
 unfolding beginning
-returns c = does_did _ (does_pin _ (c.add_note-next.ensures _)) refl (does_did _ (does_pin _ (c.add_note-next-2.ensures _)) refl c.pinch_off.ensures)
+returns-clause-run c = runs_did _ (runs_pin _ c.note.ensures.run) refl (runs_did _ (runs_pin _ c.note-2.ensures.run) refl c.pinch_off.ensures.run)

@@ -1,28 +1,24 @@
 -- `rf_start::check_monitor` meets its contract: the opening stops it, the voltage stops it, or the alarm says how it ends. Assumes nothing.
-use mathlib.Core.Path.{sym, ap, ◌∙◌}
-use lib.Dec.{lit≤}
-use Rattle.bus.proofs.Runs.{does_mapped, does_more, room_after, room_less}
-use Rattle.rf_machine.proofs.Laws.{does_stop, does_did, does_told}
-use Rattle.rf_start.specs.Start.{ready, heard, quiet, monitor}
+use mathlib.Core.Path.{refl, sym, ap}
+use Rattle.bus.proofs.Runs.{runs_mapped, within, left, enough, erred}
+use Rattle.rf_machine.proofs.Laws.{runs_stop, runs_did}
+use Rattle.rf_start.specs.Start.{ready, heard, monitor}
 use Rattle.rf_start.proofs.check_monitor.Goals as goal
 
-pub default_at-opened-requires : goal.default_at-opened-requires
-default_at-opened-requires c = room_less c.requires (lit≤ tt) (lit≤ tt)
-
-pub returns-in_default : goal.returns-in_default
+pub returns-in_err-default_at-clause-run : goal.returns-in_err-default_at-clause-run
 unfolding monitor
-returns-in_default c = does_more (does_stop _ (does_told ready c.default_at-opened.ensures (c.stop.ensures.0 ∙ sym (ap ready c.in_default.is)) c.stop.ensures.1) c.stop.ensures.0) (lit≤ tt) (lit≤ tt)
+returns-in_err-default_at-clause-run c = within (runs_stop _ (runs_mapped ready c.default_at.ensures.run (sym (ap ready c.in_err-default_at.was))) refl (erred c.from_residual.ensures)) tt
 
-pub get_voltage_at-measured-requires : goal.get_voltage_at-measured-requires
-get_voltage_at-measured-requires c = room_after c.default_at-opened.ensures (room_less c.requires (lit≤ tt) (lit≤ tt))
+pub get_voltage_at-requires : goal.get_voltage_at-requires
+get_voltage_at-requires c = left c.default_at.ensures.run (enough c.requires tt)
 
-pub returns-in_default-reading : goal.returns-in_default-reading
+pub returns-in_err-get_voltage_at-clause-run : goal.returns-in_err-get_voltage_at-clause-run
 unfolding monitor
-returns-in_default-reading c = does_more (does_did _ (does_mapped ready c.default_at-opened.ensures) (ap ready c.in-Ready.is) (does_stop _ (does_told heard c.get_voltage_at-measured.ensures (c.stop-in_default-reading.ensures.0 ∙ sym (ap heard c.in_default-reading.is)) c.stop-in_default-reading.ensures.1) c.stop-in_default-reading.ensures.0)) (lit≤ tt) (lit≤ tt)
+returns-in_err-get_voltage_at-clause-run c = within (runs_did _ (runs_mapped ready c.default_at.ensures.run (sym (ap ready c.in_ok-default_at.was))) refl (runs_stop _ (runs_mapped heard c.get_voltage_at.ensures.run (sym (ap heard c.in_err-get_voltage_at.was))) refl (erred c.from_residual-in_err-get_voltage_at.ensures))) tt
 
-pub clear_alarm_at-cleared-requires : goal.clear_alarm_at-cleared-requires
-clear_alarm_at-cleared-requires c = room_after c.get_voltage_at-measured.ensures (room_after c.default_at-opened.ensures c.requires)
+pub clear_alarm_at-alarm-requires : goal.clear_alarm_at-alarm-requires
+clear_alarm_at-alarm-requires c = left c.get_voltage_at.ensures.run (left c.default_at.ensures.run c.requires)
 
-pub returns : goal.returns
+pub returns-clause-run : goal.returns-clause-run
 unfolding monitor
-returns c = does_did _ (does_mapped ready c.default_at-opened.ensures) (ap ready c.in-Ready.is) (does_did _ (does_mapped heard c.get_voltage_at-measured.ensures) (ap heard c.in-Volts.is) (does_told quiet c.clear_alarm_at-cleared.ensures (c.acted.ensures.0 ∙ c.alarm_effect-effect.ensures) c.acted.ensures.1))
+returns-clause-run c = runs_did _ (runs_mapped ready c.default_at.ensures.run (sym (ap ready c.in_ok-default_at.was))) refl (runs_did _ (runs_mapped heard c.get_voltage_at.ensures.run (sym (ap heard c.in_ok-get_voltage_at.was))) refl (runs_mapped _ c.clear_alarm_at-alarm.ensures.run c.quiet.ensures))

@@ -1,29 +1,24 @@
 -- `rf_start::find_module` meets its contract: the interlock chip, the flag or the input power's chip says that there is none, or all are there. Assumes nothing.
-use mathlib.Core.Path.{sym, ap, ◌∙◌}
-use lib.Dec.{lit≤}
-use Rattle.bus.proofs.Runs.{does_then, does_mapped, does_more, room_after, room_less}
-use Rattle.rf_machine.proofs.Laws.{does_here, does_told}
-use Rattle.rf_start.specs.Start.{on_present, opened, there, module_there}
+use mathlib.Core.Path.{refl, sym, ap}
+use Rattle.bus.proofs.Runs.{runs_then, runs_mapped, runs_done, within, left}
+use Rattle.rf_start.specs.Start.{opened, there, on_present, module_there}
 use Rattle.rf_start.proofs.find_module.Goals as goal
 
-pub default_at-opened-requires : goal.default_at-opened-requires
-default_at-opened-requires c = room_less c.requires (lit≤ tt) (lit≤ tt)
-
-pub returns-in_default : goal.returns-in_default
+pub returns-in_default-clause-run : goal.returns-in_default-clause-run
 unfolding module_there on_present
-returns-in_default c = does_more (does_then (on_present _) (does_mapped opened c.default_at-opened.ensures) (ap opened c.in_default.is) (does_here c.found_at.ensures.0 c.found_at.ensures.1)) (lit≤ tt) (lit≤ tt)
+returns-in_default-clause-run c = within (runs_then (on_present _) (runs_mapped opened c.default_at.ensures.run refl) (ap opened c.in_default.is) (runs_done refl)) tt
 
-pub get_voltage_at-measured-requires : goal.get_voltage_at-measured-requires
-get_voltage_at-measured-requires c = room_after c.default_at-opened.ensures c.requires
+pub get_voltage_at-requires : goal.get_voltage_at-requires
+get_voltage_at-requires c = left c.default_at.ensures.run c.requires
 
-pub returns-in_default-reading : goal.returns-in_default-reading
+pub returns-in-Ok-get_voltage_at-clause-run : goal.returns-in-Ok-get_voltage_at-clause-run
 unfolding module_there on_present
-returns-in_default-reading c = rw c.if-present.true (does_then (on_present _) (does_mapped opened c.default_at-opened.ensures) (ap opened c.in-Ready.is) (does_told there c.get_voltage_at-measured.ensures (c.found_at-in_default-reading.ensures.0 ∙ sym (ap there c.in_default-reading.is)) c.found_at-in_default-reading.ensures.1))
+returns-in-Ok-get_voltage_at-clause-run c = rw c.if-present.true (runs_then (on_present _) (runs_mapped opened c.default_at.ensures.run refl) (ap opened c.in-Ok.is) (runs_mapped there c.get_voltage_at.ensures.run (sym (ap there c.in-Ok-get_voltage_at.is))))
 
-pub returns-in-Volts : goal.returns-in-Volts
+pub returns-in-Err-clause-run : goal.returns-in-Err-clause-run
 unfolding module_there on_present
-returns-in-Volts c = rw c.if-present.true (does_then (on_present _) (does_mapped opened c.default_at-opened.ensures) (ap opened c.in-Ready.is) (does_told there c.get_voltage_at-measured.ensures (c.found_at-then-present.ensures.0 ∙ sym (ap there c.in-Volts.is)) c.found_at-then-present.ensures.1))
+returns-in-Err-clause-run c = rw c.if-present.true (runs_then (on_present _) (runs_mapped opened c.default_at.ensures.run refl) (ap opened c.in-Ok.is) (runs_mapped there c.get_voltage_at.ensures.run (sym (ap there c.in-Err.is))))
 
-pub returns-else-present : goal.returns-else-present
+pub returns-else-present-clause-run : goal.returns-else-present-clause-run
 unfolding module_there on_present
-returns-else-present c = rw c.if-present.false (does_more (does_then (on_present _) (does_mapped opened c.default_at-opened.ensures) (ap opened c.in-Ready.is) (does_here c.found_at-else-present.ensures.0 c.found_at-else-present.ensures.1)) (lit≤ tt) (lit≤ tt))
+returns-else-present-clause-run c = rw c.if-present.false (within (runs_then (on_present _) (runs_mapped opened c.default_at.ensures.run refl) (ap opened c.in-Ok.is) (runs_done refl)) tt)

@@ -1,31 +1,25 @@
 -- `rf_status::measure` meets its contract: the voltages, the temperature and the input power, each of which may stop it. Assumes nothing.
-use mathlib.Core.Path.{ap}
-use lib.Dec.{lit≤}
-use Rattle.bus.proofs.Runs.{does_end, does_then, does_more, room_after, room_less}
-use Rattle.rf_machine.proofs.Laws.{does_here}
-use Rattle.rf_call.specs.declared.Temperature.TheVariants.{Celsius, Failed}
-use Rattle.rf_status.specs.declared.Measures.TheVariants.{All}
+use Rattle.std.specs.Prelude.{Some, None, Ok}
+use mathlib.Core.Path.{refl, ap}
+use Rattle.bus.proofs.Runs.{runs_then, runs_done, within, left, erred}
 use Rattle.rf_status.specs.Status.{numbers_of, on_input, on_temperature, on_voltages, measuring}
 use Rattle.rf_status.proofs.measure.Goals as goal
 
-pub get_voltages_at-scanned-requires : goal.get_voltages_at-scanned-requires
-get_voltages_at-scanned-requires c = room_less c.requires (lit≤ tt) (lit≤ tt)
-
-pub returns-in_default : goal.returns-in_default
+pub returns-in_err-four-clause-run : goal.returns-in_err-four-clause-run
 unfolding measuring on_voltages
-returns-in_default c = does_more (does_then (on_voltages c.args.channel.settings c.args.detectors c.args.temperature) c.get_voltages_at-scanned.ensures c.in_default.is (does_here c.stopped.ensures.0 c.stopped.ensures.1)) (lit≤ tt) (lit≤ tt)
+returns-in_err-four-clause-run c = within (runs_then (on_voltages c.args.channel.settings c.args.detectors c.args.temperature) c.get_voltages_at.ensures.run c.in_err-four.was (runs_done (erred c.from_residual.ensures))) tt
 
-pub returns-in_default-temperature : goal.returns-in_default-temperature
+pub returns-in_default-clause-run : goal.returns-in_default-clause-run
 unfolding measuring on_voltages on_temperature
-returns-in_default-temperature c = rw c.in_default-temperature.is (does_more (does_then (on_voltages c.args.channel.settings c.args.detectors Failed) c.get_voltages_at-scanned.ensures c.in-Volts.is (does_here c.stopped-in_default-temperature.ensures.0 c.stopped-in_default-temperature.ensures.1)) (lit≤ tt) (lit≤ tt))
+returns-in_default-clause-run c = rw c.in_default.is (within (runs_then (on_voltages c.args.channel.settings c.args.detectors None) c.get_voltages_at.ensures.run c.in_ok-four.was (runs_done refl)) tt)
 
-pub get_input_power-sensed-requires : goal.get_input_power-sensed-requires
-get_input_power-sensed-requires c = room_after c.get_voltages_at-scanned.ensures c.requires
+pub get_input_power-requires : goal.get_input_power-requires
+get_input_power-requires c = left c.get_voltages_at.ensures.run c.requires
 
-pub returns-in_default-power : goal.returns-in_default-power
+pub returns-in_err-dbm-clause-run : goal.returns-in_err-dbm-clause-run
 unfolding measuring on_voltages on_temperature on_input
-returns-in_default-power c = rw c.in-Celsius.is (does_more (does_then (on_voltages c.args.channel.settings c.args.detectors (Celsius c.in-Celsius.celsius)) c.get_voltages_at-scanned.ensures c.in-Volts.is (does_then (on_input (numbers_of c.args.channel.settings c.args.detectors c.in-Volts.four c.in-Celsius.celsius)) c.get_input_power-sensed.ensures c.in_default-power.is (does_here c.stopped-in_default-power.ensures.0 c.stopped-in_default-power.ensures.1))) (lit≤ tt) (lit≤ tt))
+returns-in_err-dbm-clause-run c = rw c.in-Some.is (runs_then (on_voltages c.args.channel.settings c.args.detectors (Some c.in-Some.celsius)) c.get_voltages_at.ensures.run c.in_ok-four.was (runs_then (on_input (numbers_of c.args.channel.settings c.args.detectors c.in_ok-four.four c.in-Some.celsius)) c.get_input_power.ensures.run c.in_err-dbm.was (runs_done (erred c.from_residual-in_err-dbm.ensures))))
 
-pub returns : goal.returns
+pub returns-clause-run : goal.returns-clause-run
 unfolding measuring on_voltages on_temperature on_input
-returns c = rw c.in-Celsius.is (does_then (on_voltages c.args.channel.settings c.args.detectors (Celsius c.in-Celsius.celsius)) c.get_voltages_at-scanned.ensures c.in-Volts.is (does_then (on_input (numbers_of c.args.channel.settings c.args.detectors c.in-Volts.four c.in-Celsius.celsius)) c.get_input_power-sensed.ensures c.in-Dbm.is (does_end (ap All c.numbers_of-numbers.ensures))))
+returns-clause-run c = rw c.in-Some.is (runs_then (on_voltages c.args.channel.settings c.args.detectors (Some c.in-Some.celsius)) c.get_voltages_at.ensures.run c.in_ok-four.was (runs_then (on_input (numbers_of c.args.channel.settings c.args.detectors c.in_ok-four.four c.in-Some.celsius)) c.get_input_power.ensures.run c.in_ok-dbm.was (runs_done (ap Ok c.numbers_of.ensures))))

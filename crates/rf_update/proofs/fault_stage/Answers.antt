@@ -1,21 +1,17 @@
 -- `rf_update::fault_stage` meets its contract: no fault, the event of the fault that was found, or a halt for the temperature. Assumes nothing.
-use lib.Dec.{lit≤}
-use Rattle.bus.proofs.Runs.{does_more}
-use Rattle.rf_machine.proofs.Laws.{does_here}
+use mathlib.Core.Path.{refl}
+use Rattle.bus.proofs.Runs.{runs_done, within}
 use Rattle.rf_update.specs.Update.{on_check, fault_stage}
 use Rattle.rf_update.proofs.fault_stage.Goals as goal
 
-pub raise-requires : goal.raise-requires
-raise-requires c = c.requires
-
-pub returns-in-Fine : goal.returns-in-Fine
+pub returns-in-Ok-None-clause-run : goal.returns-in-Ok-None-clause-run
 unfolding fault_stage on_check
-returns-in-Fine c = rw (← c.check_faults-check.ensures, c.in-Fine.is) (does_more (does_here c.going.ensures.0 c.going.ensures.1) (lit≤ tt) (lit≤ tt))
+returns-in-Ok-None-clause-run c = rw (← c.check_faults.ensures, c.in-Ok-None.is, c.in-Ok-None.field-0-is) (within (runs_done refl) tt)
 
-pub returns-in-Found : goal.returns-in-Found
+pub returns-in-Ok-Some-clause-run : goal.returns-in-Ok-Some-clause-run
 unfolding fault_stage on_check
-returns-in-Found c = rw (← c.check_faults-check.ensures, c.in-Found.is) c.raise.ensures
+returns-in-Ok-Some-clause-run c = rw (← c.check_faults.ensures, c.in-Ok-Some.is, c.in-Ok-Some.field-0-is) c.raise.ensures.run
 
-pub returns-in-Failed : goal.returns-in-Failed
+pub returns-in-Err-clause-run : goal.returns-in-Err-clause-run
 unfolding fault_stage on_check
-returns-in-Failed c = rw (← c.check_faults-check.ensures, c.in-Failed.is) (does_more (does_here c.stopped.ensures.0 c.stopped.ensures.1) (lit≤ tt) (lit≤ tt))
+returns-in-Err-clause-run c = rw (← c.check_faults.ensures, c.in-Err.is) (within (runs_done refl) tt)

@@ -1,11 +1,13 @@
--- `rf_update::raise` meets its contract: it is the event's run, with its answer turned into a stage. Assumes nothing.
-use Rattle.rf_machine.proofs.Laws.{does_turned}
+-- `rf_update::raise` meets its contract: it is the event's run, of whose answer the channel or the cause is kept. Assumes nothing.
+use mathlib.Core.Path.{sym, ap}
+use Rattle.bus.proofs.Runs.{runs_mapped}
 use Rattle.rf_update.specs.Update.{stage_of, raising}
 use Rattle.rf_update.proofs.raise.Goals as goal
 
-pub process_event-processed-requires : goal.process_event-processed-requires
-process_event-processed-requires c = c.requires
-
-pub returns : goal.returns
+pub returns-in-Ok-clause-run : goal.returns-in-Ok-clause-run
 unfolding raising
-returns c = does_turned stage_of c.process_event-processed.ensures c.stage_of-stage.ensures
+returns-in-Ok-clause-run c = runs_mapped stage_of c.process_event.ensures.run (sym (ap stage_of c.in-Ok.is))
+
+pub returns-in-Err-clause-run : goal.returns-in-Err-clause-run
+unfolding raising
+returns-in-Err-clause-run c = runs_mapped stage_of c.process_event.ensures.run (sym (ap stage_of c.in-Err.is))

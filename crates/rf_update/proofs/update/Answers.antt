@@ -1,33 +1,28 @@
 -- `rf_update::update` meets its contract: the fault stage, the trip stage and what is left, one after the other; a stage that stops halts. Assumes nothing.
-use lib.Dec.{lit≤}
-use Rattle.bus.proofs.Runs.{does_then, does_more, room_after, room_less}
-use Rattle.rf_call.proofs.Laws.{room_halt}
+use Rattle.bus.proofs.Runs.{runs_then, within, left, enough, rows, rows_left}
 use Rattle.rf_update.specs.Update.{after_stage, updating}
 use Rattle.rf_update.proofs.update.Goals as goal
 
-pub fault_stage-faulted-requires : goal.fault_stage-faulted-requires
-fault_stage-faulted-requires c = room_less c.requires (lit≤ tt) (lit≤ tt)
-
 pub halt-requires : goal.halt-requires
-halt-requires c = room_halt (room_after c.fault_stage-faulted.ensures (room_less c.requires (lit≤ tt) (lit≤ tt)))
+halt-requires c = rows_left c.fault_stage.ensures.run (rows c.requires tt)
 
-pub trip_stage-tripped-requires : goal.trip_stage-tripped-requires
-trip_stage-tripped-requires c = room_after c.fault_stage-faulted.ensures (room_less c.requires (lit≤ tt) (lit≤ tt))
+pub trip_stage-requires : goal.trip_stage-requires
+trip_stage-requires c = left c.fault_stage.ensures.run (enough c.requires tt)
 
-pub halt-requires-in-Stopped-stage : goal.halt-requires-in-Stopped-stage
-halt-requires-in-Stopped-stage c = room_halt (room_after c.trip_stage-tripped.ensures (room_after c.fault_stage-faulted.ensures (room_less c.requires (lit≤ tt) (lit≤ tt))))
+pub halt-requires-in-Err-trip_stage : goal.halt-requires-in-Err-trip_stage
+halt-requires-in-Err-trip_stage c = rows_left c.trip_stage.ensures.run (rows_left c.fault_stage.ensures.run (rows c.requires tt))
 
 pub finish-requires : goal.finish-requires
-finish-requires c = room_after c.trip_stage-tripped.ensures (room_after c.fault_stage-faulted.ensures c.requires)
+finish-requires c = left c.trip_stage.ensures.run (left c.fault_stage.ensures.run c.requires)
 
-pub returns-in-Stopped : goal.returns-in-Stopped
+pub returns-in-Err-clause-run : goal.returns-in-Err-clause-run
 unfolding updating after_stage
-returns-in-Stopped c = does_more (does_then (after_stage _) c.fault_stage-faulted.ensures c.in-Stopped.is (c.halt.ensures _)) (lit≤ tt) (lit≤ tt)
+returns-in-Err-clause-run c = within (runs_then (after_stage _) c.fault_stage.ensures.run c.in-Err.is c.halt.ensures.run) tt
 
-pub returns-in-Stopped-stage : goal.returns-in-Stopped-stage
+pub returns-in-Err-trip_stage-clause-run : goal.returns-in-Err-trip_stage-clause-run
 unfolding updating after_stage
-returns-in-Stopped-stage c = does_more (does_then (after_stage _) c.fault_stage-faulted.ensures c.in-Going.is (does_then (after_stage _) c.trip_stage-tripped.ensures c.in-Stopped-stage.is (c.halt-in-Stopped-stage.ensures _))) (lit≤ tt) (lit≤ tt)
+returns-in-Err-trip_stage-clause-run c = within (runs_then (after_stage _) c.fault_stage.ensures.run c.in-Ok.is (runs_then (after_stage _) c.trip_stage.ensures.run c.in-Err-trip_stage.is c.halt-in-Err-trip_stage.ensures.run)) tt
 
-pub returns-in-Going-stage : goal.returns-in-Going-stage
+pub returns-in-Ok-trip_stage-clause-run : goal.returns-in-Ok-trip_stage-clause-run
 unfolding updating after_stage
-returns-in-Going-stage c = does_then (after_stage _) c.fault_stage-faulted.ensures c.in-Going.is (does_then (after_stage _) c.trip_stage-tripped.ensures c.in-Going-stage.is c.finish.ensures)
+returns-in-Ok-trip_stage-clause-run c = runs_then (after_stage _) c.fault_stage.ensures.run c.in-Ok.is (runs_then (after_stage _) c.trip_stage.ensures.run c.in-Ok-trip_stage.is c.finish.ensures.run)

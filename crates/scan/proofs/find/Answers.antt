@@ -1,17 +1,13 @@
--- `scan::find` meets its contract: at the front, one place later, and past the end.
-use Rattle.std.proofs.Common.{◌≡◌, ◌+◌, arith, sym, ◌∙◌, ap}
-use Rattle.scan.proofs.Laws.{found, passed, ended}
+-- `scan::find` meets its contract, by what the library's search ensures. Assumes nothing.
+use Rattle.std.proofs.Common.{sym, ◌∙◌, rules, ◌==◌}
+use borrow.Author.Tests.{tests}
+use Rattle.std.proofs.lemmas.Iterator.{YieldsList-from_slice}
+use Rattle.std.proofs.lemmas.Iterator.Search.{position_from_yields_List}
+use Rattle.scan.proofs.Laws.{found_from, not_found_from}
 use Rattle.scan.proofs.find.Goals as goal
 
-pub returns-then-s-i-clause-place : goal.returns-then-s-i-clause-place
-returns-then-s-i-clause-place c =
-    omega (arith, c.loop-i.invariant.2, found c.args.s.now c.loop-i.i c.args.end (omega arith) (omega arith) c.args.byte c.if-s-i.true)
+pub returns-in-Some-clause-place : goal.returns-in-Some-clause-place
+returns-in-Some-clause-place c = found_from c.args.s.now c.args.start c.args.end c.requires.order c.args.byte c.in-Some.i (sym (position_from_yields_List (λ b. b == c.args.byte) _ _ _ c.position.ensures.ran (YieldsList-from_slice _ cc) (λ x b q k. search (rules, tests))) ∙ c.in-Some.is)
 
-pub loop-i-preserved : goal.loop-i-preserved
-loop-i-preserved c =
-    let step = passed c.args.s.now c.loop-i.i c.args.end (omega arith) (omega arith) c.args.byte c.if-s-i.false in
-    (omega arith, omega arith, omega (arith, step, c.loop-i.invariant.2))
-
-pub returns-clause-place : goal.returns-clause-place
-returns-clause-place c =
-    omega (arith, c.loop-i.invariant.2, ended c.args.byte c.args.s.now c.loop-i.i c.args.end (omega arith))
+pub returns-in-None-clause-place : goal.returns-in-None-clause-place
+returns-in-None-clause-place c = not_found_from c.args.s.now c.args.start c.args.end c.requires.order c.args.byte c.requires.within (sym (position_from_yields_List (λ b. b == c.args.byte) _ _ _ c.position.ensures.ran (YieldsList-from_slice _ cc) (λ x b q k. search (rules, tests))) ∙ c.in-None.is)

@@ -7,7 +7,7 @@ use Rattle.sheet.proofs.Parts.{bad_parts}
 use Rattle.sheet.proofs.put_bad.Goals as goal
 
 pub put_bytes-requires : goal.put_bytes-requires
-put_bytes-requires c = omega (arith, room_past 21 75 c.put_number-past_line.ensures (number_column _ (search rules)) c.requires)
+put_bytes-requires c = omega (arith, room_past 21 75 c.put_number.ensures.text (number_column _ (search rules)) c.requires)
 
-pub returns : goal.returns
-returns c = rw (bad_parts c.args.line) at (wrote_then c.put_number-past_line.ensures c.put_bytes.ensures)
+pub returns-clause-text : goal.returns-clause-text
+returns-clause-text c = rw (bad_parts c.args.line) at (wrote_then c.put_number.ensures.text c.put_bytes.ensures.text)

@@ -1,2 +1,0 @@
--- Laws of the one byte `-`.
-pub mod Laws

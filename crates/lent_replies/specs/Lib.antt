@@ -1,0 +1,2 @@
+-- The replies that a call is lent.
+pub mod Lent

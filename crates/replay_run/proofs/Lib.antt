@@ -1,0 +1,2 @@
+-- Laws of the reads of a trace.
+pub mod Laws

@@ -1,0 +1,2 @@
+-- What the reads of a trace whose bytes are known come to.
+pub mod Run

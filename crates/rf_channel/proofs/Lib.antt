@@ -1,2 +1,0 @@
--- Laws of the clock.
-pub mod Clock

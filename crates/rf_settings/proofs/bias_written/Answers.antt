@@ -1,8 +1,0 @@
--- `rf_settings::bias_written` meets its contract, answer for answer. Assumes nothing.
-use Rattle.rf_settings.proofs.bias_written.Goals as goal
-
-pub returns-in-Range : goal.returns-in-Range
-returns-in-Range c = rw c.in-Range.is
-
-pub returns-in-Bus : goal.returns-in-Bus
-returns-in-Bus c = rw c.in-Bus.is
