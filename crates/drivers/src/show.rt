@@ -1,5 +1,5 @@
 // Printing. Hex digits are small. What `drivers` and `bay` print by stands in each: a library's public function
-// has a promise, and no clause can say what is printed.
+// has a promise, and the kit's `io`, by which they print, promises nothing of what it writes.
 
 // The number of the standard output.
 const STDOUT: i32 = 1;
