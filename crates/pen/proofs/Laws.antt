@@ -1,4 +1,4 @@
--- Laws of inking: nothing (`inked_none`), one text behind another (`behind`), what fits of a text (`front_inked`), a text with and without room, and the texts spelt out.
+-- Laws of inking: nothing (`inked_none`), a byte (`byte_in`, `byte_out`), one text behind another (`behind`), what fits of a text (`front_inked`), a text with and without room, and the texts spelt out.
 -- Assumes nothing.
 use Prim.Native.Nat.{ℕ, suc, ◌+◌, ◌-◌, ◌≤◌, ◌<◌, min}
 use mathlib.Core.Bool.{Bool, true, false}
@@ -33,8 +33,11 @@ stores_then o n (x ∷ a) b =
 
 -- ---- a text
 
+none_at : (o : List ℕ) (n : ℕ) → Inked o n o n []
+none_at o n = record { stored = refl; past = omega arith }
+
 pub inked_none : (w : Writer) → Inks w w []
-inked_none w = record { stored = refl; past = omega arith }
+inked_none w = none_at w.out.now w.at
 
 -- either there is room for all of the text, or not
 by : (t : Bool) {G : Type 0} → (t ≡ true → G) → (t ≡ false → G) → G
@@ -64,6 +67,12 @@ behind {o} {o'} {o''} {n} {r} {s} {a} {b} v w = record {
 
 pub nothing_inked : (w : Writer) (text : List ℕ) → length w.out.now ≤ w.at → Inks w w text
 nothing_inked w text h = record { stored = sym (stores_out w.out.now w.at text h); past = omega arith }
+
+pub byte_in : (o : List ℕ) (n b : ℕ) → n < length o → Inked o n (set o n b) (n + 1) (b ∷ [])
+byte_in o n b h = record { stored = refl; past = omega arith }
+
+pub byte_out : (o : List ℕ) (n b : ℕ) → length o ≤ n → Inked o n o n (b ∷ [])
+byte_out o n b h = record { stored = sym (stores_out o n (b ∷ []) h); past = omega arith }
 
 -- what is left out had no room
 left_out : (o : List ℕ) (n k : ℕ) (text : List ℕ) → k ≡ min (length o - n) (length text) → sets o n (take k text) ≡ sets o n text
@@ -100,9 +109,12 @@ each_one : {A : Type 0} (text : A → List ℕ) (a : A) → each text (a ∷ [])
 unfolding each
 each_one text a = append-nil (text a)
 
-pub each_none : {A : Type 0} (text : A → List ℕ) (w : Writer) → Inks w w (each text [])
+pub each_none_at : {A : Type 0} (text : A → List ℕ) (o : List ℕ) (n : ℕ) → Inked o n o n (each text [])
 unfolding each
-each_none text w = inked_none w
+each_none_at text o n = none_at o n
+
+pub each_none : {A : Type 0} (text : A → List ℕ) (w : Writer) → Inks w w (each text [])
+each_none text w = each_none_at text w.out.now w.at
 
 -- the first i are written, and the next follows
 pub each_more : {A : Type 0} (text : A → List ℕ) (d : A) {o o' o'' : List ℕ} {n r s : ℕ} (l : List A) (i : ℕ) → i < length l

@@ -5,17 +5,29 @@
 
 ghost use Rattle.std.specs.Prelude.{◌≡◌, [], ◌∷◌, ◌%◌};
 ghost use Rattle.text.specs.Texts.{decimal_text};
-ghost use Rattle.pen.specs.Ink.{each, flag_text, hex_digit, pair_text, hex_text, float_text, rows_text};
+ghost use Rattle.pen.specs.Ink.{Inked, each, flag_text, hex_digit, pair_text, hex_text, float_text, rows_text};
 ghost use Rattle.pen.specs.Pens.{Inks};
 
 use text::Writer;
+
+// A byte at a place of the buffer, and the place past it. The digits go through it one by one and not through
+// `put_bytes`: most of what the programs that compare print is digits, and a copy of two bytes is a call.
+fn byte_at(out: &mut [u8], at: usize, b: u8) -> usize
+    ensures { Inked out.old at out.new result (b ∷ []) }
+{
+    if out.len() <= at {
+        return at;
+    }
+    out[at] = b;
+    at + 1
+}
 
 // A byte.
 pub fn byte(writer: &mut Writer, b: u8)
     ensures lent { writer.new.out.ghost_name ≡ writer.old.out.ghost_name }
     ensures text { Inks writer.old writer.new (b ∷ []) }
 {
-    bytes(writer, &[b]);
+    writer.at = byte_at(writer.out, writer.at, b);
 }
 
 // As much of the text as there is room for.
@@ -57,12 +69,31 @@ fn digit(n: u8) -> u8
     }
 }
 
+fn pair_at(out: &mut [u8], at: usize, b: u8) -> usize
+    ensures { Inked out.old at out.new result (pair_text b) }
+{
+    let high = digit(b / 16);
+    let low = digit(b);
+    let past = byte_at(out, at, high);
+    byte_at(out, past, low)
+}
+
 // A byte as two hex digits.
 pub fn pair(writer: &mut Writer, b: u8)
     ensures lent { writer.new.out.ghost_name ≡ writer.old.out.ghost_name }
     ensures text { Inks writer.old writer.new (pair_text b) }
 {
-    bytes(writer, &[digit(b / 16), digit(b)]);
+    writer.at = pair_at(writer.out, writer.at, b);
+}
+
+fn hex_at(out: &mut [u8], at: usize, s: &[u8]) -> usize
+    ensures { Inked out.old at out.new result (hex_text s.now) }
+{
+    let mut past = at;
+    for b in s {
+        past = pair_at(out, past, *b);
+    }
+    past
 }
 
 // Each byte as two hex digits.
@@ -70,9 +101,7 @@ pub fn hex(writer: &mut Writer, s: &[u8])
     ensures lent { writer.new.out.ghost_name ≡ writer.old.out.ghost_name }
     ensures text { Inks writer.old writer.new (hex_text s.now) }
 {
-    for b in s {
-        pair(writer, *b);
-    }
+    writer.at = hex_at(writer.out, writer.at, s);
 }
 
 // A float as the eight hex digits of its pattern.

@@ -44,10 +44,10 @@ pub fn pinch_off(bus: &mut Bus) -> Result<(), Cause>
     ensures lent { bus.new.log.ghost_name ≡ bus.old.log.ghost_name }
     ensures run { Runs pinch_off bus.old 1 1 bus.new result }
 {
-    match dac7571::set_voltage_at(bus, 3.2) {
-        Ok(_) => Ok(()),
-        Err(_) => Err(Cause::Bus),
-    }
+    let Ok(_) = dac7571::set_voltage_at(bus, 3.2) else {
+        return Err(Cause::Bus);
+    };
+    Ok(())
 }
 
 // The bias voltage of the settings is the negative of the chip's output.
@@ -104,7 +104,9 @@ fn enable_output(bus: &mut Bus, settings: ChannelSettings) -> Result<(), Cause>
     let lowest = transform.map(0.1);
     if settings.output_interlock_threshold > lowest {
         let biased = apply_bias(bus, settings);
-        enabled(biased)?;
+        let Ok(_) = biased else {
+            return enabled(biased);
+        };
         bus.note(Note::SignalOn(true));
         Ok(())
     } else {

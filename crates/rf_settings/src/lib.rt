@@ -50,7 +50,10 @@ fn write_output(bus: &mut Bus, settings: ChannelSettings, changed: bool) -> Resu
         return Ok(());
     }
     let output = rf_devices::apply_output_interlock_threshold(bus, settings);
-    level_written(output)
+    let Ok(_) = output else {
+        return level_written(output);
+    };
+    Ok(())
 }
 
 fn write_reflected(bus: &mut Bus, settings: ChannelSettings, changed: bool) -> Result<(), Wrong>
@@ -63,7 +66,10 @@ fn write_reflected(bus: &mut Bus, settings: ChannelSettings, changed: bool) -> R
     }
     let power = rf_devices::MAXIMUM_REFLECTED_POWER_DBM;
     let output = rf_devices::set_reflected_interlock_threshold(bus, settings, power);
-    level_written(output)
+    let Ok(_) = output else {
+        return level_written(output);
+    };
+    Ok(())
 }
 
 fn write_bias(bus: &mut Bus, settings: ChannelSettings, changed: bool) -> Result<(), Wrong>
@@ -75,7 +81,10 @@ fn write_bias(bus: &mut Bus, settings: ChannelSettings, changed: bool) -> Result
         return Ok(());
     }
     let output = rf_machine::apply_bias(bus, settings);
-    bias_written(output)
+    let Ok(_) = output else {
+        return bias_written(output);
+    };
+    Ok(())
 }
 
 // Writes what has changed, in this order; the first that goes wrong ends it.

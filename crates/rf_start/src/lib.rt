@@ -62,10 +62,10 @@ fn find_module(bus: &mut Bus, present: bool) -> Presence
         return Presence::Absent;
     };
     if present {
-        match mcp3221::get_voltage_at(bus, 3.3) {
-            Ok(_) => Presence::Present,
-            Err(_) => Presence::Absent,
-        }
+        let Ok(_) = mcp3221::get_voltage_at(bus, 3.3) else {
+            return Presence::Absent;
+        };
+        Presence::Present
     } else {
         Presence::Absent
     }
@@ -89,10 +89,15 @@ fn set_levels(bus: &mut Bus, settings: ChannelSettings) -> Result<(), Cause>
     ensures run { Runs (levels settings) bus.old 2 2 bus.new result }
 {
     let output = rf_devices::apply_output_interlock_threshold(bus, settings);
-    level_set(output)?;
+    let Ok(_) = output else {
+        return level_set(output);
+    };
     let power = rf_devices::MAXIMUM_REFLECTED_POWER_DBM;
     let reflected = rf_devices::set_reflected_interlock_threshold(bus, settings, power);
-    level_set(reflected)
+    let Ok(_) = reflected else {
+        return level_set(reflected);
+    };
+    Ok(())
 }
 
 // A channel that has just been started.

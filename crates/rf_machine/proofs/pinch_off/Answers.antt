@@ -13,10 +13,10 @@ lost : (e : Error) → Err Cause.Bus ≡ pinched (Err e)
 lost Range = refl
 lost Bus = refl
 
-pub returns-in-Ok-clause-run : goal.returns-in-Ok-clause-run
+pub returns-in_default-clause-run : goal.returns-in_default-clause-run
 unfolding pinch_off
-returns-in-Ok-clause-run c = runs_mapped pinched c.set_voltage_at.ensures.run (sym (ap pinched c.in-Ok.is))
+returns-in_default-clause-run c = runs_mapped pinched c.set_voltage_at.ensures.run (lost _ ∙ sym (ap pinched c.in_default.is))
 
-pub returns-in-Err-clause-run : goal.returns-in-Err-clause-run
+pub returns-clause-run : goal.returns-clause-run
 unfolding pinch_off
-returns-in-Err-clause-run c = runs_mapped pinched c.set_voltage_at.ensures.run (lost _ ∙ sym (ap pinched c.in-Err.is))
+returns-clause-run c = runs_mapped pinched c.set_voltage_at.ensures.run (sym (ap pinched c.in-Ok.is))

@@ -15,9 +15,9 @@ pub returns-in-Ok-get_voltage_at-clause-run : goal.returns-in-Ok-get_voltage_at-
 unfolding module_there on_present
 returns-in-Ok-get_voltage_at-clause-run c = rw c.if-present.true (runs_then (on_present _) (runs_mapped opened c.default_at.ensures.run refl) (ap opened c.in-Ok.is) (runs_mapped there c.get_voltage_at.ensures.run (sym (ap there c.in-Ok-get_voltage_at.is))))
 
-pub returns-in-Err-clause-run : goal.returns-in-Err-clause-run
+pub returns-in_default-get_voltage_at-clause-run : goal.returns-in_default-get_voltage_at-clause-run
 unfolding module_there on_present
-returns-in-Err-clause-run c = rw c.if-present.true (runs_then (on_present _) (runs_mapped opened c.default_at.ensures.run refl) (ap opened c.in-Ok.is) (runs_mapped there c.get_voltage_at.ensures.run (sym (ap there c.in-Err.is))))
+returns-in_default-get_voltage_at-clause-run c = rw c.if-present.true (runs_then (on_present _) (runs_mapped opened c.default_at.ensures.run refl) (ap opened c.in-Ok.is) (runs_mapped there c.get_voltage_at.ensures.run (sym (ap there c.in_default-get_voltage_at.is))))
 
 pub returns-else-present-clause-run : goal.returns-else-present-clause-run
 unfolding module_there on_present
