@@ -1,7 +1,10 @@
--- A line's columns: their number by its commas, the first, and those behind a comma. Assumes nothing.
-use Rattle.std.proofs.Common.{◌≡◌, ◌≤◌, ◌<◌, ℕ, zero, suc, ◌+◌, ◌-◌, Bool, true, false, cond, List, [], ◌∷◌, length, get_or, take, drop, refl, sym, ap, ◌∙◌, arith, eqb, count_by, length-drop}
+-- A line's columns: their number by the byte at an index, the first, and those behind a comma. Assumes nothing.
+use Rattle.std.proofs.Common.{◌≡◌, ◌≤◌, ◌<◌, ℕ, zero, suc, ◌+◌, ◌-◌, Bool, true, false, cond, List, [], ◌∷◌, length, get_or, take, drop, refl, sym, ap, ◌∙◌, arith, eqb, length-drop}
+use native.Mathlib.Numerals.{add-one}
+use lib.ListN.{drop_of_length-le}
+use lib.Seq.{drop-cons}
+use borrow.Author.Tests.{eq-eqb, ne_eqb}
 use Rattle.std.proofs.lemmas.List.{drop-drop}
-use Rattle.std.proofs.lemmas.List.Recursion.{is_count_by}
 use Rattle.scan.specs.Scan.{index_of, index_after, slice}
 use Rattle.columns.specs.Columns.{comma, onto, split, count_of, column_of}
 use lib.Seq.{take-length}
@@ -22,22 +25,39 @@ onto_count b (x ∷ xs) h = refl
 
 -- ---- the number of columns
 
-commas : List ℕ → ℕ
-commas [] = 0
-commas (b ∷ l) = cond (eqb b comma) (1 + commas l) (commas l)
-
-one_more : (l : List ℕ) → count_of l ≡ commas l + 1
-unfolding count_of split commas
-one_more [] = refl
-one_more (b ∷ l) = go (eqb b comma) (one_more l)
+-- no line is without a column
+split_some : (l : List ℕ) → 0 < length (split l)
+unfolding split
+split_some [] = omega arith
+split_some (b ∷ l) = go (eqb b comma)
   where
-    go : (t : Bool) → length (split l) ≡ commas l + 1 → length (cond t ([] ∷ split l) (onto b (split l))) ≡ cond t (1 + commas l) (commas l) + 1
-    go true h = omega (arith, h)
-    go false h = onto_count b (split l) (omega (arith, h)) ∙ h
+    some : (xs : List (List ℕ)) → 0 < length (onto b xs)
+    some [] = omega arith
+    some (x ∷ xs) = omega arith
 
-pub count_is : (l : List ℕ) → count_of l ≡ count_by (λ b. eqb b comma) l + 1
-unfolding commas
-count_is l = rw (← is_count_by commas (λ b. eqb b comma) refl (λ x xs. refl) l) (one_more l)
+    go : (t : Bool) → 0 < length (cond t ([] ∷ split l) (onto b (split l)))
+    go true = omega arith
+    go false = some (split l)
+
+-- a comma at i is a column more than there are behind it, and any other byte is none
+module _ (s : List ℕ) (i : ℕ) (h : i < length s) where
+  by : (t : Bool) → eqb (get_or s i 0) comma ≡ t → count_of (drop i s) ≡ length (cond t ([] ∷ split (drop (suc i) s)) (onto (get_or s i 0) (split (drop (suc i) s))))
+  unfolding count_of split
+  by t e = rw (drop-cons s i 0 h, e) refl
+
+  pub count_comma : get_or s i 0 ≡ comma → count_of (drop i s) ≡ 1 + count_of (drop (i + 1) s)
+  unfolding count_of
+  count_comma e =
+      let more : count_of (drop i s) ≡ suc (length (split (drop (suc i) s))) = by true (eq-eqb (get_or s i 0) comma e) in
+      rw add-one (omega (arith, more))
+
+  pub count_other : (get_or s i 0 ≡ comma → ⊥) → count_of (drop i s) ≡ count_of (drop (i + 1) s)
+  unfolding count_of
+  count_other e = rw add-one (by false (ne_eqb (get_or s i 0) comma e) ∙ onto_count (get_or s i 0) (split (drop (suc i) s)) (split_some (drop (suc i) s)))
+
+pub count_end : (s : List ℕ) (i : ℕ) → length s ≤ i → count_of (drop i s) ≡ 1
+unfolding count_of split
+count_end s i h = rw (drop_of_length-le s h) refl
 
 -- ---- the columns of a line, by where its first comma stands
 

@@ -17,7 +17,14 @@ pub struct Span {
 pub fn count(s: &[u8]) -> usize
     ensures { result ≡ count_of s.now }
 {
-    s.iter().filter(|b| **b == COMMA).count() + 1
+    let mut n = 1;
+    // No `filter` and `count`: that is a jump at each byte, and this is none.
+    for b in s {
+        if *b == COMMA {
+            n += 1;
+        }
+    }
+    n
 }
 
 // Where column k stands, from 0. A column that the line does not have is an empty span at the line's
