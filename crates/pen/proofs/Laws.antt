@@ -1,4 +1,4 @@
--- Laws of inking: nothing (`inked_none`), a byte (`byte_in`, `byte_out`), one text behind another (`behind`), what fits of a text (`front_inked`), a text with and without room, and the texts spelt out.
+-- Laws of inking: nothing (`inked_none`), a byte (`byte_in`), any text behind the end (`out_at`), one text behind another (`behind`), what fits of a text (`front_inked`), a text with and without room, and the texts spelt out.
 -- Assumes nothing.
 use Prim.Native.Nat.{ℕ, suc, ◌+◌, ◌-◌, ◌≤◌, ◌<◌, min}
 use mathlib.Core.Bool.{Bool, true, false}
@@ -65,14 +65,14 @@ behind {o} {o'} {o''} {n} {r} {s} {a} {b} v w = record {
   past = omega (arith, length-append a b, v.past, w.past, ap length v.stored ∙ length-sets o n a);
 }
 
+pub out_at : (o : List ℕ) (n : ℕ) (text : List ℕ) → length o ≤ n → Inked o n o n text
+out_at o n text h = record { stored = sym (stores_out o n text h); past = omega arith }
+
 pub nothing_inked : (w : Writer) (text : List ℕ) → length w.out.now ≤ w.at → Inks w w text
-nothing_inked w text h = record { stored = sym (stores_out w.out.now w.at text h); past = omega arith }
+nothing_inked w = out_at w.out.now w.at
 
 pub byte_in : (o : List ℕ) (n b : ℕ) → n < length o → Inked o n (set o n b) (n + 1) (b ∷ [])
 byte_in o n b h = record { stored = refl; past = omega arith }
-
-pub byte_out : (o : List ℕ) (n b : ℕ) → length o ≤ n → Inked o n o n (b ∷ [])
-byte_out o n b h = record { stored = sym (stores_out o n (b ∷ []) h); past = omega arith }
 
 -- what is left out had no room
 left_out : (o : List ℕ) (n k : ℕ) (text : List ℕ) → k ≡ min (length o - n) (length text) → sets o n (take k text) ≡ sets o n text
